@@ -1,0 +1,71 @@
+-- The definitions on worked examples, by computation: two coins of 3 and 5 at cost 2 and 3, and a tie.
+use Rattle.std.proofs.Common.{ℕ, pos, ◌≡◌, List, [], ◌∷◌, map, refl}
+use Rattle.ct_instance.specs.declared.jobs.Job.TheVariants.{Generator, Pair}
+use Rattle.ct_instance.specs.Instance.{Problem}
+use Rattle.ct_instance.specs.Fiber.{fiber_of, least_of}
+use Rattle.ct_instance.specs.Answer.{optimum, infeasible, answer_of}
+use Rattle.ct_instance.specs.TestSet.{Binomial, lists_of, test_moves_at, test_list}
+use Rattle.ct_instance.specs.Jobs.{all_jobs, job_grade_of, jobs_at}
+use Rattle.ct_instance.specs.Versions.{upto, everything, level_after, level_of}
+
+abbrev coins : Problem
+coins = record { rows = 1; columns = (3 ∷ []) ∷ (5 ∷ []) ∷ []; cost_rows = (pos 2 ∷ pos 3 ∷ []) ∷ [] }
+
+abbrev tie : Problem
+tie = record { rows = 1; columns = (1 ∷ []) ∷ (1 ∷ []) ∷ []; cost_rows = (pos 1 ∷ pos 1 ∷ []) ∷ [] }
+
+least_seven : least_of coins (7 ∷ []) ≡ 2 ∷ 0 ∷ 1 ∷ []
+unfolding least_of fiber_of
+least_seven = refl
+
+answer_seven : answer_of coins (7 ∷ []) ≡ infeasible 1
+unfolding least_of fiber_of
+answer_seven = refl
+
+answer_eight : answer_of coins (8 ∷ []) ≡ optimum (1 ∷ 1 ∷ []) (pos 5 ∷ [])
+unfolding least_of fiber_of
+answer_eight = refl
+
+answer_ten : answer_of coins (10 ∷ []) ≡ optimum (0 ∷ 2 ∷ []) (pos 6 ∷ [])
+unfolding least_of fiber_of
+answer_ten = refl
+
+answer_fifteen : answer_of coins (15 ∷ []) ≡ optimum (0 ∷ 3 ∷ []) (pos 9 ∷ [])
+unfolding least_of fiber_of
+answer_fifteen = refl
+
+tie_three : answer_of tie (3 ∷ []) ≡ optimum (0 ∷ 3 ∷ []) (pos 3 ∷ [])
+unfolding least_of fiber_of
+tie_three = refl
+
+abbrev move_of : List ℕ → List ℕ → Binomial
+move_of h t = record { head = h; tail = t }
+
+abbrev five_moves : List Binomial
+five_moves =
+    move_of (0 ∷ 0 ∷ 3 ∷ []) (1 ∷ 0 ∷ 0 ∷ []) ∷ move_of (1 ∷ 0 ∷ 2 ∷ []) (0 ∷ 1 ∷ 0 ∷ []) ∷
+    move_of (0 ∷ 1 ∷ 1 ∷ []) (2 ∷ 0 ∷ 0 ∷ []) ∷ move_of (3 ∷ 0 ∷ 1 ∷ []) (0 ∷ 2 ∷ 0 ∷ []) ∷
+    move_of (5 ∷ 0 ∷ 0 ∷ []) (0 ∷ 3 ∷ 0 ∷ []) ∷ []
+
+moves_to_fifteen : test_list coins 15 ≡ five_moves
+unfolding test_list test_moves_at lists_of least_of fiber_of
+moves_to_fifteen = refl
+
+jobs_of_five : all_jobs coins five_moves ≡
+    Generator 1 ∷ Generator 2 ∷ Pair 1 2 ∷ Pair 1 3 ∷ Pair 1 4 ∷ Pair 1 5 ∷ Pair 2 3 ∷ Pair 2 4 ∷ Pair 2 5 ∷ Pair 3 4 ∷ Pair 3 5 ∷ Pair 4 5 ∷ []
+unfolding all_jobs
+jobs_of_five = refl
+
+grades_of_five : map (job_grade_of coins five_moves) (all_jobs coins five_moves) ≡
+    3 ∷ 5 ∷ 6 ∷ 8 ∷ 12 ∷ 18 ∷ 10 ∷ 11 ∷ 17 ∷ 15 ∷ 21 ∷ 16 ∷ []
+unfolding all_jobs
+grades_of_five = refl
+
+jobs_of_grade_ten : jobs_at coins five_moves 10 ≡ Pair 2 3 ∷ []
+unfolding jobs_at all_jobs
+jobs_of_grade_ten = refl
+
+levels : map (level_of coins) (0 ∷ 1 ∷ 2 ∷ 3 ∷ 4 ∷ 5 ∷ 6 ∷ 7 ∷ 8 ∷ 9 ∷ 10 ∷ 11 ∷ 12 ∷ []) ≡
+    upto 2 ∷ upto 4 ∷ upto 5 ∷ upto 7 ∷ upto 9 ∷ upto 10 ∷ upto 11 ∷ upto 14 ∷ upto 15 ∷ upto 16 ∷ upto 17 ∷ upto 20 ∷ everything ∷ []
+unfolding level_of level_after test_list test_moves_at lists_of least_of fiber_of all_jobs
+levels = refl

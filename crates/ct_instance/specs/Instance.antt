@@ -1,0 +1,60 @@
+-- An integer program: the least cost of a list x of natural numbers with A x = b, for each b.
+use Rattle.std.specs.Prelude.{ℕ, ℤ, nat_abs, ◌+◌, ◌≤◌, ◌≡◌, List, [], ◌∷◌, ◌++◌, length, All}
+use Rattle.ct_vectors.specs.Vectors.{total, add, scale, zeros, unit}
+
+-- what an instance is seen as: m, the columns of A (a list of m numbers each), and the rows of costs
+pub record Problem : Type 0 where
+  pub rows : ℕ
+  pub columns : List (List ℕ)
+  pub cost_rows : List (List ℤ)
+
+abbrev pub column_count : Problem → ℕ
+column_count i = length i.columns
+
+-- the number of coordinates of a point: x_1 to x_n, then the artificials y_1 to y_m
+abbrev pub width_of : Problem → ℕ
+width_of i = column_count i + i.rows
+
+abbrev pub IsPoint : Problem → List ℕ → Type 0
+IsPoint i p = length p ≡ width_of i
+
+-- a column has m entries within the limit, and one of them isn't 0
+pub record IsColumn (m : ℕ) (c : List ℕ) : Type 0 where
+  pub entries : length c ≡ m
+  pub limit : All (λ a. a ≤ 1000000) c
+  pub positive : 1 ≤ total c
+
+-- a row of costs has n entries within the limit
+pub record IsCostRow (n : ℕ) (row : List ℤ) : Type 0 where
+  pub entries : length row ≡ n
+  pub limit : All (λ c. nat_abs c ≤ 1000000000000) row
+
+pub record IsInstance (i : Problem) : Type 0 where
+  pub some_row : 1 ≤ i.rows
+  pub row_limit : i.rows ≤ 16
+  pub some_column : 1 ≤ column_count i
+  pub column_limit : column_count i ≤ 64
+  pub is_column : All (IsColumn i.rows) i.columns
+  pub some_cost_row : 1 ≤ length i.cost_rows
+  pub is_cost_row : All (IsCostRow (column_count i)) i.cost_rows
+
+-- a right-hand side: m numbers
+abbrev pub IsRight : Problem → List ℕ → Type 0
+IsRight i b = length b ≡ i.rows
+
+-- A x + y, for the columns of A and the point (x, y)
+abbrev pub degree_of : List (List ℕ) → List ℕ → List ℕ
+degree_of [] p = p
+degree_of (c ∷ cs) [] = []
+degree_of (c ∷ cs) (x ∷ p) = add (scale x c) (degree_of cs p)
+
+abbrev pub grade_of : List (List ℕ) → List ℕ → ℕ
+grade_of cs p = total (degree_of cs p)
+
+-- the point (0, b)
+abbrev pub start_of : Problem → List ℕ → List ℕ
+start_of i b = zeros (column_count i) ++ b
+
+-- the point with x_j = 1, the index j from 0
+abbrev pub unit_of : Problem → ℕ → List ℕ
+unit_of i j = unit (column_count i) j ++ zeros i.rows

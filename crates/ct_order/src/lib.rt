@@ -1,0 +1,2 @@
+//! The refined order.
+#![tactic(auto)]

@@ -1,0 +1,6 @@
+//! Lists of natural numbers as points: sum, truncated difference, multiple, least common multiple, the
+//! order in each coordinate, and disjoint support.
+//!
+//! The crate has definitions (`specs/Vectors.antt`) and lemmas about them (`proofs/`), and no code: the
+//! vectors of `ct_point`, the order of `ct_order` and the subject of `ct_instance` all cite it.
+#![tactic(auto)]

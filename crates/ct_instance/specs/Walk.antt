@@ -1,7 +1,7 @@
 -- Steps by a list of moves. Moves are numbered from 1.
 use Rattle.std.specs.Prelude.{ℕ, ◌≤◌, ◌≡◌, cond, Option, Some, None, List, [], ◌∷◌, slice_get, zero, suc}
 use Rattle.std.specs.Option.{option_map}
-use Rattle.ct_vectors.specs.Vectors.{add, subtract, scale, Divides, divides}
+use Rattle.ct_vectors.specs.Vectors.{add, subtract, scale, Divides, divides, IsTimes}
 use Rattle.ct_instance.specs.TestSet.{Binomial}
 
 -- the move with this number
@@ -21,11 +21,6 @@ IsNormal ms p = first_dividing ms p ≡ None
 -- p less t times the head plus t times the tail
 abbrev pub moved : Binomial → ℕ → List ℕ → List ℕ
 moved m t p = add (subtract p (scale t m.head)) (scale t m.tail)
-
--- t is the greatest count with t times h at most p
-pub record IsTimes (h p : List ℕ) (t : ℕ) : Type 0 where
-  pub fits : Divides (scale t h) p
-  pub most : (s : ℕ) → Divides (scale s h) p → s ≤ t
 
 -- a free step from p to q: some move of the list, some times
 pub record FreeStep (ms : List Binomial) (p q : List ℕ) : Type 0 where

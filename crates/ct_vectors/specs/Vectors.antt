@@ -1,5 +1,5 @@
 -- Arithmetic of points. A point is a list of natural numbers, and a coordinate that a list lacks reads as 0.
-use Rattle.std.specs.Prelude.{ℕ, ◌+◌, ◌-◌, ◌*◌, ◌≤◌, ◌≡◌, ◌⊎◌, max, Bool, true, ◌&&◌, ◌||◌, nat_le, nat_eq, List, [], ◌∷◌, ◌++◌, zero, suc}
+use Rattle.std.specs.Prelude.{ℕ, ◌+◌, ◌-◌, ◌*◌, ◌≤◌, ◌≡◌, ◌⊎◌, max, Bool, true, ◌&&◌, ◌||◌, nat_le, nat_eq, List, [], ◌∷◌, ◌++◌, replicate, zero, suc}
 
 -- the sum of the coordinates
 abbrev pub total : List ℕ → ℕ
@@ -29,8 +29,7 @@ lcm (x ∷ p) (y ∷ q) = max x y ∷ lcm p q
 
 -- n coordinates that are 0
 abbrev pub zeros : ℕ → List ℕ
-zeros zero = []
-zeros (suc n) = 0 ∷ zeros n
+zeros n = replicate n 0
 
 -- n coordinates, of which the one with the index j, from 0, is 1 and the others are 0
 abbrev pub unit : ℕ → ℕ → List ℕ
@@ -49,6 +48,11 @@ abbrev pub divides : List ℕ → List ℕ → Bool
 divides [] q = true
 divides (x ∷ p) [] = nat_eq x 0 && divides p []
 divides (x ∷ p) (y ∷ q) = nat_le x y && divides p q
+
+-- t is the greatest count with t times h at most p
+pub record IsTimes (h p : List ℕ) (t : ℕ) : Type 0 where
+  pub fits : Divides (scale t h) p
+  pub most : (s : ℕ) → Divides (scale s h) p → s ≤ t
 
 -- no coordinate is positive in both
 abbrev pub Disjoint : List ℕ → List ℕ → Type 0

@@ -1,2 +1,10 @@
-//! The refined order.
+//! The refined order: which of two points is lower.
+//!
+//! A point has n coordinates `x`, each with a cost, and then m artificial ones. The lower of two points has the
+//! smaller artificial total, then the smaller cost, row by row, then the smaller number at the first coordinate that
+//! differs. The definitions are in `specs/Order.antt`, and `laws` says what holds of them.
 #![tactic(auto)]
+
+mod laws;
+
+pub use laws::{order_is_total, order_keeps_sums};

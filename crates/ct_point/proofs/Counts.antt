@@ -1,8 +1,9 @@
 -- Tests and counts that go over two lists place by place.
-use Rattle.std.proofs.Common.{◌≡◌, ℕ, ◌+◌, ◌*◌, ◌/◌, ◌%◌, ◌^◌, min, below_more, ◌-◌, ◌≤◌, ◌<◌, ◌⊎◌, inl, inr, List, [], ◌∷◌, length, get_or, drop, refl, sym, ap, ◌∙◌, subst, arith, Bool, true, false, ◌&&◌, ◌||◌, nat_le, nat_eq}
-use Rattle.std.proofs.lemmas.List.{drop_more, drop_all}
+use Rattle.std.proofs.Common.{◌≡◌, ℕ, ◌+◌, ◌*◌, ◌/◌, ◌%◌, ◌^◌, min, below_more, ◌-◌, ◌≤◌, ◌<◌, ◌⊎◌, inl, inr, List, ◌∷◌, length, get_or, drop, refl, sym, ap, ◌∙◌, subst, arith, Bool, true, false, ◌&&◌, ◌||◌, nat_le, nat_eq}
+use Rattle.std.proofs.lemmas.List.{drop_more, drop_all, get_or_past}
 use Rattle.ct_vectors.specs.Vectors.{total, scale, Divides, divides, disjoint, IsTimes}
-use Rattle.ct_point.proofs.Places.{get_or-scale, length-scale, Divides-at, Divides-from, total-zero}
+use Rattle.ct_vectors.proofs.Divisors.{Divides-at, Divides-from_at}
+use Rattle.ct_point.proofs.Places.{get_or-scale, total-zero}
 
 -- what a test by places says at two lists, by their first places and the rest
 module _ (test : List ℕ → List ℕ → Bool) (p q : List ℕ) (i : ℕ) (in-p : i < length p) (in-q : i < length q) where
@@ -114,16 +115,17 @@ IsLeastQuotient-lower head p t r i pos small is q = record {
 
 pub IsTimes-from : (head p : List ℕ) (times i : ℕ) → length head ≡ length p → length p ≤ i → 1 ≤ total head → IsLeastQuotient head p times i → IsTimes head p times
 IsTimes-from head p times i e l pos q = record {
-  fits = Divides-from (scale times head) p (length-scale times head ∙ e) (λ k m. fits_at k m);
+  fits = Divides-from_at (scale times head) p (λ k. fits_at k (get_or-scale times head k) (before_or_after k i));
   most = λ s d. most_by s d q.some;
 }
   where
-    fits_at : (k : ℕ) → k < length (scale times head) → get_or (scale times head) k 0 ≤ get_or p k 0
-    fits_at k m =
-        let len : length (scale times head) ≡ length head = length-scale times head in
-        let below : k < i = omega arith in
-        let at : get_or (scale times head) k 0 ≡ times * get_or head k 0 = get_or-scale times head k in
-        let fit : times * get_or head k 0 ≤ get_or p k 0 = q.fits k below in
+    before_or_after : (k i : ℕ) → (k < i) ⊎ (i ≤ k)
+    before_or_after k i = grind arith
+    fits_at : (k : ℕ) → get_or (scale times head) k 0 ≡ times * get_or head k 0 → (k < i) ⊎ (i ≤ k) → get_or (scale times head) k 0 ≤ get_or p k 0
+    fits_at k at (inl below) = let fit : times * get_or head k 0 ≤ get_or p k 0 = q.fits k below in omega arith
+    fits_at k at (inr past) =
+        let none : get_or head k 0 ≡ 0 = get_or_past head k 0 (omega arith) in
+        let fit : times * get_or head k 0 ≤ get_or p k 0 = nothing_fits times (get_or head k 0) (get_or p k 0) none in
         omega arith
     most_by : (s : ℕ) → Divides (scale s head) p →
       ((k : ℕ) × (k < i) × (0 < get_or head k 0) × (get_or p k 0 < times * get_or head k 0 + get_or head k 0)) ⊎ (((k : ℕ) → k < i → get_or head k 0 ≡ 0) × (times ≡ 2 ^ 64 - 1)) → s ≤ times

@@ -1,6 +1,6 @@
 -- A loop that writes the places of a list one after another.
-use Rattle.std.proofs.Common.{◌≡◌, ℕ, ◌+◌, ◌≤◌, ◌<◌, List, [], ◌∷◌, ◌++◌, length, get_or, set, take, drop, refl, sym, ap, ◌∙◌, arith, length-set}
-use Rattle.std.proofs.lemmas.List.{take_more_set, take_more, drop_more, drop-set, take_all, get_or-drop, drop-set-lt}
+use Rattle.std.proofs.Common.{◌≡◌, ℕ, ◌+◌, ◌≤◌, ◌<◌, List, [], ◌∷◌, ◌++◌, length, get_or, set, take, drop, refl, sym, ap, ◌∙◌, arith}
+use Rattle.std.proofs.lemmas.List.{take_more_set, take_more, drop_more, take_all, get_or-drop, drop-set-lt}
 
 -- the first i places of now are those of end, and the others are still those of before
 pub record IsWritten (end before now : List ℕ) (i : ℕ) : Type 0 where

@@ -1,4 +1,4 @@
-ghost use Rattle.std.specs.Prelude.{◌≡◌, ℕ, ◌+◌, ◌-◌, ◌^◌, ◌<◌, ◌≤◌, List, length, slice_set, All, IfOk, OnOk, IfSome, IfNone, MatchOption, MatchResult};
+ghost use Rattle.std.specs.Prelude.{◌≡◌, ℕ, ◌^◌, ◌<◌, ◌≤◌, List, length, slice_set, All, IfOk, IfSome, IsSome, ◌↔◌};
 ghost use Rattle.ct_vectors.specs.Vectors.{add, subtract, scale, lcm, total, zeros, Divides, divides, disjoint, IsTimes};
 
 use crate::slices;
@@ -93,8 +93,8 @@ impl Point {
     /// The difference, and `None` exactly where a coordinate would be negative.
     pub fn sub_checked(&self, alloc: Global, other: &Point) -> Result<Option<Point>, AllocError>
         requires width { length self.now ≡ length other.now }
-        ensures negative { IfOk result (λ d. IfNone d (divides other.now self.now ≡ false)) }
-        ensures difference { IfOk result (λ d. IfSome d (λ p. Divides other.now self.now × (p ≡ subtract self.now other.now))) }
+        ensures nowhere_negative { IfOk result (λ d. IsSome d ↔ Divides other.now self.now) }
+        ensures difference { IfOk result (λ d. IfSome d (λ p. p ≡ subtract self.now other.now)) }
     {
         if !other.divides(self) {
             return Ok(None);

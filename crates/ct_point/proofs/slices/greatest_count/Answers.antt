@@ -1,4 +1,4 @@
-use Rattle.std.proofs.Common.{◌≡◌, ◌<◌, ◌^◌, ◌+◌, length, get_or, arith, subst, sym}
+use Rattle.std.proofs.Common.{◌≡◌, ◌<◌, ◌^◌, ◌+◌, get_or, arith, subst, sym}
 use Rattle.ct_point.proofs.Counts.{IsLeastQuotient, IsLeastQuotient-same, IsLeastQuotient-lower, IsTimes-from}
 use Rattle.ct_point.proofs.slices.greatest_count.Goals as goal
 use Rattle.ct_point.proofs.slices.greatest_count.Goals.{then-head-i-gt0, else-head-i-gt0}

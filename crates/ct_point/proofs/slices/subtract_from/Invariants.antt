@@ -1,4 +1,3 @@
-use Rattle.std.proofs.Common.{◌≡◌, length}
 use Rattle.ct_vectors.specs.Vectors.{subtract}
 use Rattle.ct_point.proofs.InPlace.{IsWritten}
 use Rattle.ct_point.proofs.slices.subtract_from.Given as goal

@@ -5,6 +5,9 @@
 //! differs. The definitions are in `specs/Order.antt`, and `laws` says what holds of them.
 #![tactic(auto)]
 
-mod laws;
+mod comparison;
+mod costs;
+pub mod laws;
 
-pub use laws::{order_is_total, order_keeps_sums};
+pub use comparison::{art_total, compare, cost};
+pub use costs::Costs;

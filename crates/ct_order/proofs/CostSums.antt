@@ -1,0 +1,29 @@
+-- Costs place by place, and how large they grow.
+use Rattle.std.proofs.Common.{◌≡◌, ℕ, ℤ, pos, ◌+ℤ◌, ◌*ℤ◌, ◌+◌, ◌*◌, ◌≤◌, ◌<◌, List, ◌∷◌, length, drop, get_or, sym, ap, ◌∙◌, arith, nat_abs}
+use Rattle.std.proofs.Math.IntN.{+ℤ_assoc}
+use Rattle.std.proofs.lemmas.List.{drop_more}
+use Rattle.std.proofs.lemmas.Int.{ints, unsigned_abs-mul}
+use Rattle.ct_order.specs.Order.{cost_of}
+
+abs-add : (a b : ℤ) → nat_abs (a +ℤ b) ≤ nat_abs a + nat_abs b
+abs-add a b = omega (arith, ints)
+
+mul_both : (a b m n : ℕ) → a ≤ m → b ≤ n → a * b ≤ m * n
+mul_both a b m n h k = grind arith
+
+-- one product more, within its limits
+pub abs-product : (sum c : ℤ) (x i : ℕ) → nat_abs sum ≤ i * 32000000000000000000000000 → nat_abs c ≤ 1000000000000 → x ≤ 32000000000000 →
+  nat_abs (sum +ℤ (c *ℤ pos x)) ≤ (i + 1) * 32000000000000000000000000
+abs-product sum c x i small c-limit x-limit =
+    let split : nat_abs (sum +ℤ (c *ℤ pos x)) ≤ nat_abs sum + nat_abs (c *ℤ pos x) = abs-add sum (c *ℤ pos x) in
+    let product : nat_abs (c *ℤ pos x) ≡ nat_abs c * x = unsigned_abs-mul c (pos x) in
+    let limit : nat_abs c * x ≤ 1000000000000 * 32000000000000 = mul_both (nat_abs c) x 1000000000000 32000000000000 c-limit x-limit in
+    omega arith
+
+-- the cost of what is left is the first product and the cost of the rest
+pub cost_more : (sum : ℤ) (cs : List ℤ) (p : List ℕ) (i : ℕ) → i < length cs → i < length p →
+  (sum +ℤ (get_or cs i (pos 0) *ℤ pos (get_or p i 0))) +ℤ cost_of (drop (i + 1) cs) (drop (i + 1) p) ≡ sum +ℤ cost_of (drop i cs) (drop i p)
+cost_more sum cs p i in-cs in-p =
+    +ℤ_assoc sum (get_or cs i (pos 0) *ℤ pos (get_or p i 0)) (cost_of (drop (i + 1) cs) (drop (i + 1) p)) ∙
+    ap (λ z. sum +ℤ z) (sym (ap (λ l. cost_of l (drop i p)) (drop_more cs i (pos 0) in-cs) ∙
+      ap (λ l. cost_of (get_or cs i (pos 0) ∷ drop (i + 1) cs) l) (drop_more p i 0 in-p)))

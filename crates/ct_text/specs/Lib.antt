@@ -1,0 +1,4 @@
+pub mod Place
+pub mod Tokens
+pub mod Token
+pub mod Numbers

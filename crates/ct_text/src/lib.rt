@@ -1,0 +1,15 @@
+//! The spelling of tokens and numbers.
+//!
+//! [`Tokens`] goes once over the bytes of a text and gives its tokens, each with its line and column.
+//! [`natural`] and [`signed`] tell a number from what is spelled otherwise and from what is over a limit.
+//! [`push_natural`] and [`push_signed`] write the one decimal text of a number.
+#![tactic(auto)]
+
+mod number;
+mod place;
+mod print;
+mod token;
+
+pub use number::{NumberFault, natural, signed};
+pub use print::{push_natural, push_signed};
+pub use token::{Token, Tokens};

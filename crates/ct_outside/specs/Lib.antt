@@ -1,3 +1,7 @@
 pub mod Faults
+pub mod MemFiles
+pub mod MemShelf
+pub mod MemSink
+pub mod Memory
 pub mod Shelf
 pub mod Sink

@@ -1,4 +1,4 @@
--- What a shelf tells, and what a fetch does by it.
+-- What a shelf tells, and what a fetch answers by it.
 use Rattle.std.specs.Prelude.{◌≡◌, ℕ, ◌+◌, ◌≤◌, List, [], length, take, ⊤, Result, Ok, Err}
 use Rattle.ct_outside.specs.declared.fetch_fault.FetchFault.{FetchFault}
 use Rattle.ct_outside.specs.declared.fetch_fault.FetchFault.TheVariants.{Failed, TooLong, Memory}
@@ -16,9 +16,16 @@ HasFile untold P = ⊤
 HasFile absent P = ⊥
 HasFile (file bytes) P = P bytes
 
--- the answer of a fetch, with the bytes that it leaves and the name's count of faults before and now
-abbrev pub Fetches : Told → ℕ → List ℕ → ℕ → ℕ → Result (Unit {0}) FetchFault → Type 0
-Fetches told limit got before now (Ok _) = (length got ≤ limit) × HasFile told (λ bytes. got ≡ bytes)
-Fetches told limit got before now (Err TooLong) = (length got ≡ limit + 1) × HasFile told (λ bytes. got ≡ take (limit + 1) bytes)
-Fetches told limit got before now (Err Failed) = (got ≡ []) × Rose before now
-Fetches told limit got before now (Err Memory) = got ≡ []
+-- what a fetch leaves in the buffer: the whole file within the limit, one byte more of a longer one, or nothing
+abbrev pub Leaves : Told → ℕ → List ℕ → Result (Unit {0}) FetchFault → Type 0
+Leaves told limit got (Ok _) = (length got ≤ limit) × HasFile told (λ bytes. got ≡ bytes)
+Leaves told limit got (Err TooLong) = (length got ≡ limit + 1) × HasFile told (λ bytes. got ≡ take (limit + 1) bytes)
+Leaves told limit got (Err Failed) = got ≡ []
+Leaves told limit got (Err Memory) = got ≡ []
+
+-- `Failed` is answered only where the name's count of faults rose
+abbrev pub HasCause : ℕ → ℕ → Result (Unit {0}) FetchFault → Type 0
+HasCause before now (Ok _) = ⊤
+HasCause before now (Err Failed) = Rose before now
+HasCause before now (Err TooLong) = ⊤
+HasCause before now (Err Memory) = ⊤

@@ -10,7 +10,7 @@
 mod failed_names;
 mod fetch_fault;
 //mod file_shelf;
-//mod mem_shelf;
+mod mem_shelf;
 //mod mem_sink;
 mod shelf;
 mod sink;
@@ -21,7 +21,7 @@ mod writing;
 
 pub use fetch_fault::FetchFault;
 //pub use file_shelf::FileShelf;
-//pub use mem_shelf::MemShelf;
+pub use mem_shelf::MemShelf;
 //pub use mem_sink::MemSink;
 pub use shelf::Shelf;
 pub use sink::{Sink, SinkFailed};

@@ -1,6 +1,6 @@
 // Files by their names.
 ghost use Rattle.std.specs.Prelude.{◌≡◌, ◌≢◌, ◌≤◌, ℕ, List};
-ghost use Rattle.ct_outside.specs.Shelf.{Told, Fetches};
+ghost use Rattle.ct_outside.specs.Shelf.{Told, Leaves, HasCause};
 
 use crate::FetchFault;
 use std::alloc::Global;
@@ -22,8 +22,8 @@ pub trait Shelf {
         limit: u64,
         into: &mut Vec<u8>,
     ) -> Result<(), FetchFault>
-        ensures fetches { Fetches (told self.old name.now) limit into.new.items
-            (faults self.old name.now) (faults self.new name.now) result }
+        ensures leaves { Leaves (told self.old name.now) limit into.new.items result }
+        ensures cause { HasCause (faults self.old name.now) (faults self.new name.now) result }
         ensures kept { told self.new ≡ told self.old }
         ensures later { (other : List ℕ) → faults self.old other ≤ faults self.new other }
         ensures others { (other : List ℕ) → other ≢ name.now → faults self.new other ≡ faults self.old other };

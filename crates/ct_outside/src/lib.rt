@@ -9,21 +9,21 @@
 
 mod failed_names;
 mod fetch_fault;
-//mod file_shelf;
+mod file_shelf;
 mod mem_shelf;
-//mod mem_sink;
+mod mem_sink;
 mod shelf;
 mod sink;
-//mod std_sink;
+mod std_sink;
 //#[cfg(test)]
 //mod tests;
 mod writing;
 
 pub use fetch_fault::FetchFault;
-//pub use file_shelf::FileShelf;
+pub use file_shelf::FileShelf;
 pub use mem_shelf::MemShelf;
-//pub use mem_sink::MemSink;
+pub use mem_sink::MemSink;
 pub use shelf::Shelf;
 pub use sink::{Sink, SinkFailed};
-//pub use std_sink::StdSink;
+pub use std_sink::StdSink;
 pub use writing::write_whole;

@@ -11,15 +11,15 @@ use Rattle.std.proofs.lemmas.Slice.Eq.{bytes_eq-Decides}
 use Rattle.std.proofs.lemmas.Bool.{false_from_ne_true}
 use Rattle.ct_outside.specs.MemFiles.{files_of}
 use Rattle.ct_outside.specs.MemShelf.{told_of}
-use Rattle.ct_outside.specs.Shelf.{Told, absent, file}
+use Rattle.ct_outside.specs.Shelf.{Told, absent, holds}
 
 -- what the bytes at a name tell
 abbrev pub told_by : Option (Vec ℕ Global) → Told
 told_by None = absent
-told_by (Some bytes) = file bytes.items
+told_by (Some bytes) = holds bytes.items
 
 -- a choice by a test, told
-told_by-cond : (test : Bool) (bytes : Vec ℕ Global) (rest : Option (Vec ℕ Global)) (told : Told) → told ≡ told_by rest → cond test (file bytes.items) told ≡ told_by (cond test (Some bytes) rest)
+told_by-cond : (test : Bool) (bytes : Vec ℕ Global) (rest : Option (Vec ℕ Global)) (told : Told) → told ≡ told_by rest → cond test (holds bytes.items) told ≡ told_by (cond test (Some bytes) rest)
 told_by-cond true bytes rest told same = refl
 told_by-cond false bytes rest told same = same
 

@@ -5,7 +5,7 @@ use Rattle.std.specs.Str.{bytes_eq}
 use Rattle.ct_outside.specs.declared.fetch_fault.FetchFault.{FetchFault}
 use Rattle.ct_outside.specs.declared.fetch_fault.FetchFault.TheVariants.{Failed, TooLong, Memory}
 use Rattle.ct_outside.specs.Faults.{one_more}
-use Rattle.ct_outside.specs.Shelf.{Told, absent, file}
+use Rattle.ct_outside.specs.Shelf.{Told, absent, holds}
 
 -- the files by name, the names whose fetch failed, the number of fetches, and the numbers of those that are to fail
 pub record ShelfState : Type 0 where
@@ -21,7 +21,7 @@ empty_shelf = record { files = []; failed = []; fetches = 0; failing = [] }
 -- what files by name tell of a name
 abbrev pub told_of : List (List ℕ × List ℕ) → List ℕ → Told
 told_of [] name = absent
-told_of (entry ∷ files) name = if bytes_eq name entry.0 then file entry.1 else told_of files name
+told_of (entry ∷ files) name = if bytes_eq name entry.0 then holds entry.1 else told_of files name
 
 -- whether the next fetch is one that is to fail
 abbrev pub is_due : ShelfState → Bool
@@ -29,7 +29,7 @@ is_due shelf = list_any (λ call. call == one_more shelf.fetches) shelf.failing
 
 -- the fault of a fetch by what is told of the name, or none
 abbrev pub fault_by : Told → ℕ → Option FetchFault
-fault_by (file bytes) limit = if nat_le (length bytes) limit then None else Some TooLong
+fault_by (holds bytes) limit = if nat_le (length bytes) limit then None else Some TooLong
 fault_by _ limit = Some Failed
 
 -- the fault of the next fetch, or none

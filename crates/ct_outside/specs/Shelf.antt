@@ -1,5 +1,5 @@
 -- What a shelf tells, and what a fetch answers by it.
-use Rattle.std.specs.Prelude.{◌≡◌, ℕ, ◌+◌, ◌≤◌, List, [], length, take, ⊤, Result, Ok, Err}
+use Rattle.std.specs.Prelude.{◌≡◌, ℕ, ◌+◌, ◌≤◌, List, [], ◌∷◌, ◌++◌, length, take, ⊤, Result, Ok, Err}
 use Rattle.ct_outside.specs.declared.fetch_fault.FetchFault.{FetchFault}
 use Rattle.ct_outside.specs.declared.fetch_fault.FetchFault.TheVariants.{Failed, TooLong, Memory}
 use Rattle.ct_outside.specs.Faults.{Rose}
@@ -8,13 +8,13 @@ use Rattle.ct_outside.specs.Faults.{Rose}
 pub data Told : Type 0 where
   untold : Told
   absent : Told
-  file : List ℕ → Told
+  holds : List ℕ → Told
 
 -- as far as it is told, the name has a file, and P holds of its bytes
 abbrev pub HasFile : Told → (List ℕ → Type 0) → Type 0
 HasFile untold P = ⊤
 HasFile absent P = ⊥
-HasFile (file bytes) P = P bytes
+HasFile (holds bytes) P = P bytes
 
 -- what a fetch leaves in the buffer: the whole file within the limit, one byte more of a longer one, or nothing
 abbrev pub Leaves : Told → ℕ → List ℕ → Result (Unit {0}) FetchFault → Type 0
@@ -29,3 +29,10 @@ HasCause before now (Ok _) = ⊤
 HasCause before now (Err Failed) = Rose before now
 HasCause before now (Err TooLong) = ⊤
 HasCause before now (Err Memory) = ⊤
+
+-- the names whose fetch failed, each as often as it failed, after a fetch of this name
+abbrev pub failed_after : List (List ℕ) → List ℕ → Result (Unit {0}) FetchFault → List (List ℕ)
+failed_after failed name (Ok _) = failed
+failed_after failed name (Err Failed) = failed ++ name ∷ []
+failed_after failed name (Err TooLong) = failed
+failed_after failed name (Err Memory) = failed

@@ -1,26 +1,36 @@
 // The files of the file system.
-ghost use Rattle.std.specs.Prelude.{◌≤◌, ◌≡◌, [], ℕ, vec_len, IsErrOf};
+ghost use Rattle.std.specs.Prelude.{◌≡◌, ◌≢◌, ◌≤◌, [], ℕ, List, vec_len, IsErrOf};
 ghost use Rattle.ct_outside.specs.Faults.{count_of};
-ghost use Rattle.ct_outside.specs.Shelf.{untold, Leaves};
+ghost use Rattle.ct_outside.specs.Shelf.{untold, Leaves, HasCause, failed_after};
 
 use crate::failed_names::FailedNames;
 use crate::{FetchFault, Shelf};
 use std::alloc::Global;
 use std::fs;
 use std::io::{ErrorKind, Read};
+use std::marker::Model;
 use std::rt::Files;
 
 const PIECE: usize = 16384;
 
-/// The files of the file system, by their paths. It tells no content.
+/// The files of the file system, by their paths. It tells no content, and is seen as the names whose
+/// fetch failed, each as often as it failed.
 #[derive(Drop)]
 pub struct FileShelf<'a, R> {
     rt: &'a R,
     failed: FailedNames,
 }
 
+impl<'a, R> Model for FileShelf<'a, R> {
+    ghost Value = { List (List ℕ) };
+
+    ghost view = { λ a. a.failed };
+}
+
 impl<'a, R: Files> FileShelf<'a, R> {
-    pub fn new(rt: &'a R, alloc: Global) -> FileShelf<'a, R> {
+    pub fn new(rt: &'a R, alloc: Global) -> FileShelf<'a, R>
+        ensures { result ≡ [] }
+    {
         FileShelf {
             rt,
             failed: FailedNames::new(alloc),
@@ -31,7 +41,7 @@ impl<'a, R: Files> FileShelf<'a, R> {
 impl<'a, R: Files> Shelf for FileShelf<'a, R> {
     ghost told = { λ _ _. untold };
 
-    ghost faults = { λ shelf. count_of shelf.failed };
+    ghost faults = { count_of };
 
     fn fetch(
         &mut self,
@@ -39,15 +49,22 @@ impl<'a, R: Files> Shelf for FileShelf<'a, R> {
         name: &str,
         limit: u64,
         into: &mut Vec<u8>,
-    ) -> Result<(), FetchFault> {
+    ) -> Result<(), FetchFault>
+        ensures leaves { Leaves untold limit into.new.items result }
+        ensures cause { HasCause (count_of self.old name.now) (count_of self.new name.now) result }
+        ensures later { (other : List ℕ) → count_of self.old other ≤ count_of self.new other }
+        ensures others { (other : List ℕ) → other ≢ name.now → count_of self.new other ≡ count_of self.old other }
+        ensures after { self.new ≡ failed_after self.old name.now result }
+    {
         into.clear();
         self.failed.note(alloc, name)?;
-        let outcome = read_file(self.rt, name, limit, into);
-        if let Err(FetchFault::Failed) = outcome {
-            return Err(FetchFault::Failed);
+        match read_file(self.rt, name, limit, into) {
+            Err(FetchFault::Failed) => Err(FetchFault::Failed),
+            outcome => {
+                self.failed.forget_last();
+                outcome
+            }
         }
-        self.failed.forget_last();
-        outcome
     }
 }
 

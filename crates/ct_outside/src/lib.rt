@@ -15,8 +15,8 @@ mod mem_sink;
 mod shelf;
 mod sink;
 mod std_sink;
-//#[cfg(test)]
-//mod tests;
+#[cfg(test)]
+mod tests;
 mod writing;
 
 pub use fetch_fault::FetchFault;

@@ -1,7 +1,7 @@
 // Files in memory, whose fetch can be made to fail.
 ghost use Rattle.std.specs.Prelude.{◌≡◌, ◌≢◌, ◌≤◌, ◌++◌, ◌∷◌, [], ℕ, List, Some, OnOk, OnErr, if◌then◌else◌};
 ghost use Rattle.ct_outside.specs.Faults.{count_of};
-ghost use Rattle.ct_outside.specs.Shelf.{Leaves, HasCause, file};
+ghost use Rattle.ct_outside.specs.Shelf.{Leaves, HasCause, holds};
 ghost use Rattle.ct_outside.specs.Memory.{IsUnlessMemory};
 ghost use Rattle.ct_outside.specs.MemShelf.{empty_shelf, told_of, fault_by, next_fault, after_fetch};
 ghost use Rattle.ct_outside.specs.MemFiles.{files_of};
@@ -45,7 +45,7 @@ impl MemShelf {
 
     /// The name holds these bytes from now on, in the place of those that it had.
     pub fn add(&mut self, alloc: Global, name: &str, bytes: &[u8]) -> Result<(), AllocError>
-        ensures holds { OnOk result (told_of self.new.files name.now ≡ file bytes.now) }
+        ensures holds { OnOk result (told_of self.new.files name.now ≡ holds bytes.now) }
         ensures others { (other : List ℕ) → other ≢ name.now → told_of self.new.files other ≡ told_of self.old.files other }
         ensures rest { self.new ≡ record self.old { files = self.new.files } }
         ensures err { OnErr result (self.new ≡ self.old) }

@@ -1,5 +1,5 @@
 -- What callers need of a fetch and a write: from what was got to what is told, and a rise along several calls.
-use Rattle.std.proofs.Common.{◌≡◌, ℕ, ◌+◌, ◌<◌, ◌≤◌, List, ◌++◌, length, take, min, subst, arith, ap, length-take}
+use Rattle.std.proofs.Common.{◌≡◌, ℕ, ◌+◌, ◌<◌, ◌≤◌, List, length, take, subst, arith, ap, length-take}
 use Rattle.ct_outside.specs.Faults.{Rose}
 use Rattle.ct_outside.specs.Shelf.{Told, untold, absent, holds, HasFile}
 

@@ -1,5 +1,5 @@
 -- What the files of a map tell of a name is what the map has at it.
-use Rattle.std.proofs.Common.{◌≡◌, ◌≢◌, ℕ, List, [], ◌∷◌, map, Bool, true, false, cond, Option, Some, None, refl, ap, ◌∙◌, sym, string_bytes, String, Vec}
+use Rattle.std.proofs.Common.{◌≡◌, ◌≢◌, ℕ, List, [], ◌∷◌, map, Bool, true, false, cond, Option, Some, None, refl, ap, sym, string_bytes, String, Vec}
 use Rattle.std.specs.BTreeMap.{BTreeMap, get_by_text, is_at}
 use Rattle.std.specs.Map.{lookup, update}
 use Rattle.std.specs.Ordering.{nat_cmp}

@@ -69,12 +69,7 @@ impl<'a, R: Files> Shelf for FileShelf<'a, R> {
 }
 
 // The file at this path into an empty buffer, as far as the limit and one byte more.
-fn read_file<R: Files>(
-    rt: &R,
-    path: &str,
-    limit: u64,
-    into: &mut Vec<u8>,
-) -> Result<(), FetchFault>
+fn read_file<R: Files>(rt: &R, path: &str, limit: u64, into: &mut Vec<u8>) -> Result<(), FetchFault>
     requires { into.old.items ≡ [] }
     ensures { Leaves untold limit into.new.items result }
 {

@@ -52,7 +52,10 @@ fn a_sink_in_memory_holds_a_front_of_the_text(rt: HostRuntime) -> Result<(), Fai
         let mut sink = MemSink::new(alloc, bite, room)?;
         sink.fail_at(alloc, failing)?;
         let result = write_whole(&mut sink, TEXT);
-        assert!(rt; result.is_ok() == (held == whole), "{bite} {room} {failing}");
+        assert!(rt;
+            result.is_ok() == (held == whole),
+            "{bite} {room} {failing}"
+        );
         assert!(rt; sink.held().len() == held, "{bite} {room} {failing}");
         assert!(rt; TEXT.starts_with(sink.held()), "{bite} {room} {failing}");
     }

@@ -5,7 +5,7 @@ use Rattle.ct_outside.proofs.writing.write_whole.Goals as goal
 
 pub loop-done-preserved : goal.loop-done-preserved
 loop-done-preserved g c = record {
-    within = omega (arith, c.in_ok-done.ensures.at_most, length-drop {A = ℕ}, length-take {A = ℕ});
-    appended = appends_more _ _ _ _ _ _ c.loop-done.invariant.appended (rw take_rest at c.in_ok-done.ensures.appends);
-    later = omega arith
-  }
+  within = omega (arith, c.in_ok-done.ensures.at_most, length-drop {A = ℕ}, length-take {A = ℕ});
+  appended = appends_more _ _ _ _ _ _ c.loop-done.invariant.appended (rw take_rest at c.in_ok-done.ensures.appends);
+  later = omega arith;
+}

@@ -1,0 +1,4 @@
+pub mod Appended
+pub mod Callers
+pub mod Counted
+pub mod FilesTold

@@ -1,0 +1,110 @@
+// The files of the file system.
+ghost use Rattle.std.specs.Prelude.{◌≡◌, ◌≢◌, ◌≤◌, [], ℕ, List, vec_len, IsErrOf};
+ghost use Rattle.ct_outside.specs.Faults.{count_of};
+ghost use Rattle.ct_outside.specs.Shelf.{untold, Leaves, HasCause, failed_after};
+
+use crate::failed_names::FailedNames;
+use crate::{FetchFault, Shelf};
+use std::alloc::Global;
+use std::fs;
+use std::io::{ErrorKind, Read};
+use std::marker::Model;
+use std::rt::Files;
+
+const PIECE: usize = 16384;
+
+/// The files of the file system, by their paths. It tells no content, and is seen as the names whose
+/// fetch failed, each as often as it failed.
+#[derive(Drop)]
+pub struct FileShelf<'a, R> {
+    rt: &'a R,
+    failed: FailedNames,
+}
+
+impl<'a, R> Model for FileShelf<'a, R> {
+    ghost Value = { List (List ℕ) };
+
+    ghost view = { λ a. a.failed };
+}
+
+impl<'a, R: Files> FileShelf<'a, R> {
+    pub fn new(rt: &'a R, alloc: Global) -> FileShelf<'a, R>
+        ensures { result ≡ [] }
+    {
+        FileShelf {
+            rt,
+            failed: FailedNames::new(alloc),
+        }
+    }
+}
+
+impl<'a, R: Files> Shelf for FileShelf<'a, R> {
+    ghost told = { λ _ _. untold };
+
+    ghost faults = { count_of };
+
+    fn fetch(
+        &mut self,
+        alloc: Global,
+        name: &str,
+        limit: u64,
+        into: &mut Vec<u8>,
+    ) -> Result<(), FetchFault>
+        ensures leaves { Leaves untold limit into.new.items result }
+        ensures cause { HasCause (count_of self.old name.now) (count_of self.new name.now) result }
+        ensures later { (other : List ℕ) → count_of self.old other ≤ count_of self.new other }
+        ensures others { (other : List ℕ) → other ≢ name.now → count_of self.new other ≡ count_of self.old other }
+        ensures after { self.new ≡ failed_after self.old name.now result }
+    {
+        into.clear();
+        self.failed.note(alloc, name)?;
+        match read_file(self.rt, name, limit, into) {
+            Err(FetchFault::Failed) => Err(FetchFault::Failed),
+            outcome => {
+                self.failed.forget_last();
+                outcome
+            }
+        }
+    }
+}
+
+// The file at this path into an empty buffer, as far as the limit and one byte more.
+fn read_file<R: Files>(rt: &R, path: &str, limit: u64, into: &mut Vec<u8>) -> Result<(), FetchFault>
+    requires { into.old.items ≡ [] }
+    ensures { Leaves untold limit into.new.items result }
+{
+    let Ok(mut file) = fs::open(rt, path) else {
+        return Err(FetchFault::Failed);
+    };
+    let most = limit.saturating_add(1);
+    if let Err(fault) = read_most(&mut file, most, into) {
+        into.clear();
+        return Err(fault);
+    }
+    if into.len() as u64 <= limit {
+        return Ok(());
+    }
+    Err(FetchFault::TooLong)
+}
+
+// Reads to the end of a file, or until the buffer has so many bytes.
+fn read_most<F: Read>(file: &mut F, most: u64, into: &mut Vec<u8>) -> Result<(), FetchFault>
+    requires { vec_len into.old ≤ most }
+    ensures within { vec_len into.new ≤ most }
+    ensures not_long { IsErrOf result FetchFault.TooLong → ⊥ }
+{
+    let mut piece = [0; PIECE];
+    for _ in 0..u64::MAX {
+        let room = (most - into.len() as u64).min(PIECE as u64) as usize;
+        if room == 0 {
+            return Ok(());
+        }
+        match file.read(&mut piece[..room]) {
+            Ok(0) => return Ok(()),
+            Ok(count) => into.extend_from_slice(&piece[..count])?,
+            Err(error) if error.kind() == ErrorKind::Interrupted => {}
+            Err(_) => return Err(FetchFault::Failed),
+        }
+    }
+    Err(FetchFault::Failed)
+}

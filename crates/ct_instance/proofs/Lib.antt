@@ -1,1 +1,3 @@
 mod Worked
+pub mod Grades
+pub mod Entries

@@ -1,5 +1,5 @@
 -- An integer program: the least cost of a list x of natural numbers with A x = b, for each b.
-use Rattle.std.specs.Prelude.{ℕ, ℤ, nat_abs, ◌+◌, ◌≤◌, ◌≡◌, List, [], ◌∷◌, ◌++◌, length, All}
+use Rattle.std.specs.Prelude.{ℕ, ℤ, nat_abs, ◌+◌, ◌*◌, ◌≤◌, ◌≡◌, List, [], ◌∷◌, ◌++◌, length, All}
 use Rattle.ct_vectors.specs.Vectors.{total, add, scale, zeros, unit}
 
 -- what an instance is seen as: m, the columns of A (a list of m numbers each), and the rows of costs
@@ -58,3 +58,9 @@ start_of i b = zeros (column_count i) ++ b
 -- the point with x_j = 1, the index j from 0
 abbrev pub unit_of : Problem → ℕ → List ℕ
 unit_of i j = unit (column_count i) j ++ zeros i.rows
+
+-- the grade by the sums of the columns: each coordinate times its column's sum, and the artificials
+abbrev pub weighted : List ℕ → List ℕ → ℕ
+weighted [] p = total p
+weighted (s ∷ ss) [] = 0
+weighted (s ∷ ss) (x ∷ p) = s * x + weighted ss p

@@ -1,4 +1,5 @@
 pub mod Instance
+pub mod Made
 pub mod Fiber
 pub mod Answer
 pub mod TestSet

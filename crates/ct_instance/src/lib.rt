@@ -2,5 +2,9 @@
 #![tactic(auto)]
 
 mod jobs;
+mod making;
+mod refusals;
+mod sums;
 
 pub use jobs::Job;
+pub use refusals::BadInstance;

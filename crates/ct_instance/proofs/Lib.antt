@@ -1,1 +1,6 @@
 mod Worked
+pub mod Lists
+pub mod Degree
+pub mod Fiber
+pub mod Answer
+pub mod TestHeads

@@ -2,5 +2,9 @@
 #![tactic(auto)]
 
 mod jobs;
+mod laws;
 
 pub use jobs::Job;
+pub use laws::{
+    answer_is_least_solution, fiber_has_one_least_point, test_heads_decide, tests_agree,
+};

@@ -4,3 +4,5 @@ pub mod Degree
 pub mod Fiber
 pub mod Answer
 pub mod TestHeads
+pub mod Ordered
+pub mod TestList

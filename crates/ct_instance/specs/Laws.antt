@@ -5,7 +5,7 @@ use Rattle.ct_order.specs.Order.{art_total_of}
 use Rattle.ct_instance.specs.Instance.{Problem, IsInstance, IsPoint, IsRight, column_count, degree_of}
 use Rattle.ct_instance.specs.Fiber.{fiber_of, least_of, IsInFiber, IsBelow, IsLeast}
 use Rattle.ct_instance.specs.Answer.{IsSolution, costs_of, optimum, infeasible, answer_of}
-use Rattle.ct_instance.specs.TestSet.{IsImprovable, is_improvable, IsTestHead, is_test_head}
+use Rattle.ct_instance.specs.TestSet.{Binomial, IsImprovable, is_improvable, IsTestHead, is_test_head, test_list, IsTestList}
 
 -- ---- fibers
 
@@ -73,3 +73,13 @@ TestHeadIsMinimal = (i : Problem) (p h : List ℕ) → IsTestHead i p → IsPoin
 -- a test head and the least point of its fiber share no variable
 abbrev pub TestMoveIsDisjoint : Type 0
 TestMoveIsDisjoint = (i : Problem) → IsInstance i → (h t : List ℕ) → IsTestHead i h → IsLeast i (degree_of i.columns h) t → Disjoint h t
+
+-- ---- test lists
+
+-- the test list of g is sound, complete and in order, and is the only such list
+abbrev pub TestListIsOne : Type 0
+TestListIsOne = (i : Problem) → IsInstance i → (g : ℕ) (ms : List Binomial) → (ms ≡ test_list i g) ↔ IsTestList i g ms
+
+-- the test list of a greater grade begins with it
+abbrev pub TestListsGrow : Type 0
+TestListsGrow = (i : Problem) (g h : ℕ) → g ≤ h → (more : List Binomial) × (test_list i h ≡ test_list i g ++ more)

@@ -1,6 +1,6 @@
 //! Laws of the definitions, as contracts of functions that do nothing.
 
-ghost use Rattle.ct_instance.specs.Laws.{FiberIsListed, LeastPointIsLeast, SolutionsAreInFibers, AnswerIsLeastSolution, AnswerIsShort, ShortHasNoSolution, ImprovableIsTested, TestHeadIsTested, ImprovableAboveTestHead, TestHeadIsMinimal, TestMoveIsDisjoint};
+ghost use Rattle.ct_instance.specs.Laws.{FiberIsListed, LeastPointIsLeast, SolutionsAreInFibers, AnswerIsLeastSolution, AnswerIsShort, ShortHasNoSolution, ImprovableIsTested, TestHeadIsTested, ImprovableAboveTestHead, TestHeadIsMinimal, TestMoveIsDisjoint, TestListIsOne, TestListsGrow};
 
 /// The listed fiber has exactly the points of its degree, and `least_of` is the one point that is below all others.
 pub fn fiber_has_one_least_point()
@@ -28,4 +28,11 @@ pub fn test_heads_decide()
     ensures above { ImprovableAboveTestHead }
     ensures minimal { TestHeadIsMinimal }
     ensures disjoint { TestMoveIsDisjoint }
+{}
+
+/// The test list of a grade is the one list that is sound, complete and in order, and that of a greater grade begins
+/// with it.
+pub fn test_list_is_one()
+    ensures one { TestListIsOne }
+    ensures grows { TestListsGrow }
 {}

@@ -6,5 +6,6 @@ mod laws;
 
 pub use jobs::Job;
 pub use laws::{
-    answer_is_least_solution, fiber_has_one_least_point, test_heads_decide, tests_agree,
+    answer_is_least_solution, fiber_has_one_least_point, test_heads_decide, test_list_is_one,
+    tests_agree,
 };

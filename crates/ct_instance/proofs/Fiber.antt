@@ -3,18 +3,18 @@ use Rattle.std.proofs.Common.{ℕ, ◌+◌, ◌≤◌, ◌<◌, ◌≡◌, ◌�
 use Rattle.std.specs.List.{best_of, IsFirstBest}
 use Rattle.std.proofs.lemmas.List.MinMax.{IsFirstBest-from_best_of, ranks_by}
 use Rattle.std.proofs.lemmas.List.Elements.{Contains-get_or, at_from_Contains}
-use Rattle.std.proofs.lemmas.Bool.{false_from_ne_true}
-use Rattle.ct_vectors.specs.Vectors.{total, add, subtract, scale, divides, up_to}
-use Rattle.ct_vectors.proofs.Sums.{length-subtract, length-scale, add_comm, subtract-add}
+use Rattle.std.proofs.lemmas.Bool.{false_from_ne_true, cases_eq}
+use Rattle.ct_vectors.specs.Vectors.{total, add, subtract, scale, divides, up_to, zeros}
+use Rattle.ct_vectors.proofs.Sums.{length-subtract, length-scale, add_comm, subtract-add, zeros_from_total}
 use Rattle.ct_vectors.proofs.Divisors.{Divides-from_test, test_from_Divides, Divides-add_left, add-subtract}
 use Rattle.ct_vectors.proofs.Places.{Contains-up_to}
 use Rattle.ct_order.specs.Order.{refined_order}
 use Rattle.ct_order.proofs.Order.{refined_order_total, below-irrefl, below-trans, below-asymm, below_cases, Less-from_test}
-use Rattle.ct_instance.specs.Instance.{Problem, IsInstance, IsPoint, IsRight, column_count, degree_of, start_of}
+use Rattle.ct_instance.specs.Instance.{Problem, IsInstance, IsPoint, IsRight, column_count, degree_of, start_of, grade_of}
 use Rattle.ct_instance.specs.Fiber.{fiber_of, least_of, IsInFiber, IsBelow, IsLeast}
 use Rattle.ct_instance.specs.TestSet.{IsImprovable, is_improvable}
 use Rattle.ct_instance.proofs.Lists.{Contains-here, Contains-there, Contains-cons_cases, Contains-filter, filter_gives, Contains-map, map_gives, Contains-flat_map, flat_map_gives, list_any-contains, list_any_gives, count_by-lt}
-use Rattle.ct_instance.proofs.Degree.{AreColumns, columns, length-degree, total-le-grade, degree-start, start_is_point, degree_is_right}
+use Rattle.ct_instance.proofs.Degree.{AreColumns, columns, length-degree, total-le-grade, degree-start, start_is_point, degree_is_right, zeros_from_grade, grade-zeros}
 
 -- ---- the list has each point of the fiber, and no other
 
@@ -206,3 +206,13 @@ least_or_improvable i h p e = ⊎_elim inr (λ n. inl (least_from_not_improvable
 
 pub least_points : (i : Problem) → IsInstance i → (b : List ℕ) → IsRight i b → (p : List ℕ) → (p ≡ least_of i b) ↔ IsLeast i b p
 least_points i h b e p = (λ s. subst (IsLeast i b) (sym s) (least_is_least i h b e), is_least_of i h b p)
+
+-- what has a point of its degree below it isn't zero
+pub below_positive : (i : Problem) → IsInstance i → (p q : List ℕ) → IsPoint i p → IsPoint i q → degree_of i.columns q ≡ degree_of i.columns p → IsBelow i q p → 1 ≤ total p
+below_positive i h p q e f s d = ⊎_elim (λ z. absurd (below_differs i q p d (same z))) (λ n. omega (arith, n)) (cases_eq (total p) 0)
+  where
+    same : total p ≡ 0 → q ≡ p
+    same z =
+        let zero_point : p ≡ zeros (length p) = zeros_from_total p z in
+        let grade : grade_of i.columns p ≡ 0 = grade-zeros i.rows i.columns (columns i h) p e z in
+        zeros_from_grade i.rows i.columns (columns i h) q (ap total s ∙ grade) ∙ ap zeros (f ∙ sym e) ∙ sym zero_point

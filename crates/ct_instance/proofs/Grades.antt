@@ -13,7 +13,7 @@ get_or-le-total (x ∷ p) (suc i) = let rest : get_or p i 0 ≤ total p = get_or
 
 -- the degree of what is left from column j on is the multiple of column j and the degree of the rest
 pub degree_more : (cs : List (List ℕ)) (p : List ℕ) (j : ℕ) → j < length cs → j < length p →
-  degree_of (drop j cs) (drop j p) ≡ add (scale (get_or p j 0) (get_or cs j [])) (degree_of (drop (j + 1) cs) (drop (j + 1) p))
+    degree_of (drop j cs) (drop j p) ≡ add (scale (get_or p j 0) (get_or cs j [])) (degree_of (drop (j + 1) cs) (drop (j + 1) p))
 degree_more cs p j in-cs in-p =
     ap (λ l. degree_of l (drop j p)) (drop_more cs j [] in-cs) ∙ ap (λ l. degree_of (get_or cs j [] ∷ drop (j + 1) cs) l) (drop_more p j 0 in-p)
 
@@ -48,7 +48,7 @@ grade_is_weighted (c ∷ cs) (x ∷ p) =
 
 -- one product more
 pub weighted_more : (ss p : List ℕ) (j : ℕ) → j < length ss → j < length p →
-  weighted (drop j ss) (drop j p) ≡ get_or ss j 0 * get_or p j 0 + weighted (drop (j + 1) ss) (drop (j + 1) p)
+    weighted (drop j ss) (drop j p) ≡ get_or ss j 0 * get_or p j 0 + weighted (drop (j + 1) ss) (drop (j + 1) p)
 weighted_more ss p j in-ss in-p =
     ap (λ l. weighted l (drop j p)) (drop_more ss j 0 in-ss) ∙ ap (λ l. weighted (get_or ss j 0 ∷ drop (j + 1) ss) l) (drop_more p j 0 in-p)
 

@@ -1,7 +1,8 @@
 -- The definitions on worked examples, by computation: two coins of 3 and 5 at cost 2 and 3, and a tie.
-use Rattle.std.proofs.Common.{ℕ, pos, ◌≡◌, List, [], ◌∷◌, map, refl}
+use Rattle.std.proofs.Common.{ℕ, pos, nat_abs, ◌≤◌, ◌≡◌, List, [], ◌∷◌, map, refl, arith, lit≤}
+use Rattle.std.proofs.lemmas.List.Elements.{All-from_recursion}
 use Rattle.ct_instance.specs.declared.jobs.Job.TheVariants.{Generator, Pair}
-use Rattle.ct_instance.specs.Instance.{Problem}
+use Rattle.ct_instance.specs.Instance.{Problem, IsColumn, IsCostRow, IsInstance}
 use Rattle.ct_instance.specs.Fiber.{fiber_of, least_of}
 use Rattle.ct_instance.specs.Answer.{optimum, infeasible, answer_of}
 use Rattle.ct_instance.specs.TestSet.{Binomial, lists_of, test_moves_at, test_list}
@@ -69,3 +70,19 @@ levels : map (level_of coins) (0 ∷ 1 ∷ 2 ∷ 3 ∷ 4 ∷ 5 ∷ 6 ∷ 7 ∷ 8
     upto 2 ∷ upto 4 ∷ upto 5 ∷ upto 7 ∷ upto 9 ∷ upto 10 ∷ upto 11 ∷ upto 14 ∷ upto 15 ∷ upto 16 ∷ upto 17 ∷ upto 20 ∷ everything ∷ []
 unfolding level_of level_after test_list test_moves_at lists_of least_of fiber_of all_jobs
 levels = refl
+
+-- the premises of the laws are met
+coins_is_instance : IsInstance coins
+coins_is_instance = record {
+  some_row = lit≤ tt;
+  row_limit = lit≤ tt;
+  some_column = lit≤ tt;
+  column_limit = lit≤ tt;
+  is_column = All-from_recursion (IsColumn 1) coins.columns (column 3 (lit≤ tt) (lit≤ tt), (column 5 (lit≤ tt) (lit≤ tt), tt));
+  some_cost_row = lit≤ tt;
+  is_cost_row = All-from_recursion (IsCostRow 2) coins.cost_rows
+      (record { entries = refl; limit = All-from_recursion (λ c. nat_abs c ≤ 1000000000000) (pos 2 ∷ pos 3 ∷ []) (lit≤ tt, (lit≤ tt, tt)) }, tt);
+}
+  where
+    column : (a : ℕ) → a ≤ 1000000 → 1 ≤ a → IsColumn 1 (a ∷ [])
+    column a l k = record { entries = refl; limit = All-from_recursion (λ c. c ≤ 1000000) (a ∷ []) (l, tt); positive = omega arith }

@@ -6,3 +6,4 @@ pub mod TestSet
 pub mod Walk
 pub mod Jobs
 pub mod Versions
+pub mod Laws

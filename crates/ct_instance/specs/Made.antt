@@ -44,4 +44,4 @@ refused_cost costs = option_map (λ j. Cost (j + 1)) (position (λ c. nat_lt 100
 abbrev pub refusal_of : ℕ → ℕ → List ℕ → List ℤ → Option BadInstance
 refusal_of m n entries costs =
     option_or (refused_rows m) (option_or (refused_columns n) (option_or (refused_entry n entries)
-      (option_or (refused_sum (map total (columns_of m n entries))) (refused_cost costs))))
+    (option_or (refused_sum (map total (columns_of m n entries))) (refused_cost costs))))

@@ -1,11 +1,12 @@
 -- Improvable points, test heads, and the test list of a grade.
-use Rattle.std.specs.Prelude.{ℕ, ◌<◌, ◌≡◌, Bool, not, ◌&&◌, nat_eq, List, [], ◌∷◌, filter, map, zero, suc}
+use Rattle.std.specs.Prelude.{ℕ, ◌≤◌, ◌<◌, ◌≡◌, ◌⊎◌, Bool, not, ◌&&◌, nat_eq, List, [], ◌∷◌, filter, map, All, AllPairs, Contains, zero, suc}
+use Rattle.std.specs.declared.cmp.Ordering.TheVariants.{Less}
 use Rattle.std.specs.Ordering.{is_lt}
 use Rattle.std.specs.List.{flat_map, list_any, list_all}
 use Rattle.ct_vectors.specs.Vectors.{add, unit, up_to}
-use Rattle.ct_order.specs.Order.{refined_order}
+use Rattle.ct_order.specs.Order.{first_difference, refined_order}
 use Rattle.ct_instance.specs.Instance.{Problem, column_count, width_of, degree_of, grade_of, IsPoint}
-use Rattle.ct_instance.specs.Fiber.{fiber_of, least_of, IsInFiber, IsBelow}
+use Rattle.ct_instance.specs.Fiber.{fiber_of, least_of, IsInFiber, IsBelow, IsLeast}
 
 -- a move: take the head away as often as it fits, and add the tail as often
 pub record Binomial : Type 0 where
@@ -56,3 +57,19 @@ test_moves_at i d =
 -- the test moves of grade at most g, by grade and then by their heads
 unfoldable pub test_list : Problem → ℕ → List Binomial
 test_list i g = flat_map (test_moves_at i) (up_to g)
+
+-- what a test list is: a test head with the least point of its fiber
+pub record IsTestMove (i : Problem) (m : Binomial) : Type 0 where
+  pub head : IsTestHead i m.head
+  pub tail : IsLeast i (degree_of i.columns m.head) m.tail
+
+-- p has a smaller grade than q, or the same and a smaller number at the first place that differs
+abbrev pub ComesBefore : Problem → List ℕ → List ℕ → Type 0
+ComesBefore i p q =
+    (grade_of i.columns p < grade_of i.columns q) ⊎ ((grade_of i.columns p ≡ grade_of i.columns q) × (first_difference p q ≡ Less))
+
+-- test moves of grade at most g alone, for each test head of grade at most g, each head before those after it
+pub record IsTestList (i : Problem) (g : ℕ) (ms : List Binomial) : Type 0 where
+  pub sound : All (λ m. IsTestMove i m × (grade_of i.columns m.head ≤ g)) ms
+  pub complete : (p : List ℕ) → IsTestHead i p → grade_of i.columns p ≤ g → Contains (map (λ m. m.head) ms) p
+  pub ordered : AllPairs (λ m n. ComesBefore i m.head n.head) ms

@@ -9,6 +9,7 @@ use ct_point::Point;
 use std::alloc::{AllocError, Global};
 
 const ENTRY_LIMIT: u64 = 1_000_000;
+
 const COST_LIMIT: u64 = 1_000_000_000_000;
 
 fn first_over(numbers: &[u64], limit: u64) -> Option<usize>
@@ -70,7 +71,13 @@ pub fn check_costs(costs: &[i64]) -> Result<(), BadInstance>
 }
 
 // One column, of rows that stand one after another.
-fn column_from(alloc: Global, rows: usize, columns: usize, j: usize, entries: &[u64]) -> Result<Point, AllocError>
+fn column_from(
+    alloc: Global,
+    rows: usize,
+    columns: usize,
+    j: usize,
+    entries: &[u64],
+) -> Result<Point, AllocError>
     requires some { 1 ≤ rows }
     requires most { rows ≤ 16 }
     requires column { j < columns }
@@ -86,7 +93,12 @@ fn column_from(alloc: Global, rows: usize, columns: usize, j: usize, entries: &[
 }
 
 // The columns in order.
-pub fn columns_from(alloc: Global, rows: usize, columns: usize, entries: &[u64]) -> Result<Vec<Point>, AllocError>
+pub fn columns_from(
+    alloc: Global,
+    rows: usize,
+    columns: usize,
+    entries: &[u64],
+) -> Result<Vec<Point>, AllocError>
     requires some { 1 ≤ rows }
     requires most { rows ≤ 16 }
     requires few { columns ≤ 64 }

@@ -13,7 +13,7 @@ mul_both a b m n h k = grind arith
 
 -- one product more, within its limits
 pub abs-product : (sum c : ℤ) (x i : ℕ) → nat_abs sum ≤ i * 32000000000000000000000000 → nat_abs c ≤ 1000000000000 → x ≤ 32000000000000 →
-  nat_abs (sum +ℤ (c *ℤ pos x)) ≤ (i + 1) * 32000000000000000000000000
+    nat_abs (sum +ℤ (c *ℤ pos x)) ≤ (i + 1) * 32000000000000000000000000
 abs-product sum c x i small c-limit x-limit =
     let split : nat_abs (sum +ℤ (c *ℤ pos x)) ≤ nat_abs sum + nat_abs (c *ℤ pos x) = abs-add sum (c *ℤ pos x) in
     let product : nat_abs (c *ℤ pos x) ≡ nat_abs c * x = unsigned_abs-mul c (pos x) in
@@ -22,8 +22,8 @@ abs-product sum c x i small c-limit x-limit =
 
 -- the cost of what is left is the first product and the cost of the rest
 pub cost_more : (sum : ℤ) (cs : List ℤ) (p : List ℕ) (i : ℕ) → i < length cs → i < length p →
-  (sum +ℤ (get_or cs i (pos 0) *ℤ pos (get_or p i 0))) +ℤ cost_of (drop (i + 1) cs) (drop (i + 1) p) ≡ sum +ℤ cost_of (drop i cs) (drop i p)
+    (sum +ℤ (get_or cs i (pos 0) *ℤ pos (get_or p i 0))) +ℤ cost_of (drop (i + 1) cs) (drop (i + 1) p) ≡ sum +ℤ cost_of (drop i cs) (drop i p)
 cost_more sum cs p i in-cs in-p =
     +ℤ_assoc sum (get_or cs i (pos 0) *ℤ pos (get_or p i 0)) (cost_of (drop (i + 1) cs) (drop (i + 1) p)) ∙
     ap (λ z. sum +ℤ z) (sym (ap (λ l. cost_of l (drop i p)) (drop_more cs i (pos 0) in-cs) ∙
-      ap (λ l. cost_of (get_or cs i (pos 0) ∷ drop (i + 1) cs) l) (drop_more p i 0 in-p)))
+    ap (λ l. cost_of (get_or cs i (pos 0) ∷ drop (i + 1) cs) l) (drop_more p i 0 in-p)))

@@ -25,11 +25,11 @@ nat_le-false : (x y : ℕ) → y < x → nat_le x y ≡ false
 nat_le-false x y h = grind arith
 
 pub divides_more : (p q : List ℕ) (i : ℕ) → i < length p → i < length q → get_or p i 0 ≤ get_or q i 0 →
-  divides (drop i p) (drop i q) ≡ divides (drop (i + 1) p) (drop (i + 1) q)
+    divides (drop i p) (drop i q) ≡ divides (drop (i + 1) p) (drop (i + 1) q)
 divides_more p q i l k h = at_place divides p q i l k ∙ and_true _ _ (nat_le-true (get_or p i 0) (get_or q i 0) h)
 
 pub divides_stop : (p q : List ℕ) (i : ℕ) → i < length p → i < length q → get_or q i 0 < get_or p i 0 →
-  divides (drop i p) (drop i q) ≡ false
+    divides (drop i p) (drop i q) ≡ false
 divides_stop p q i l k h = at_place divides p q i l k ∙ and_false _ _ (nat_le-false (get_or p i 0) (get_or q i 0) h)
 
 pub divides_end : (p q : List ℕ) (i : ℕ) → length p ≤ i → divides (drop i p) q ≡ true
@@ -42,11 +42,11 @@ none_zero : (x y : ℕ) → 0 < x → 0 < y → (nat_eq x 0 || nat_eq y 0) ≡ f
 none_zero x y h k = grind arith
 
 pub disjoint_more : (p q : List ℕ) (i : ℕ) → i < length p → i < length q → (get_or p i 0 ≡ 0) ⊎ (get_or q i 0 ≡ 0) →
-  disjoint (drop i p) (drop i q) ≡ disjoint (drop (i + 1) p) (drop (i + 1) q)
+    disjoint (drop i p) (drop i q) ≡ disjoint (drop (i + 1) p) (drop (i + 1) q)
 disjoint_more p q i l k h = at_place disjoint p q i l k ∙ and_true _ _ (some_zero (get_or p i 0) (get_or q i 0) h)
 
 pub disjoint_stop : (p q : List ℕ) (i : ℕ) → i < length p → i < length q → 0 < get_or p i 0 → 0 < get_or q i 0 →
-  disjoint (drop i p) (drop i q) ≡ false
+    disjoint (drop i p) (drop i q) ≡ false
 disjoint_stop p q i l k h m = at_place disjoint p q i l k ∙ and_false _ _ (none_zero (get_or p i 0) (get_or q i 0) h m)
 
 pub disjoint_end : (p q : List ℕ) (i : ℕ) → length p ≤ i → disjoint (drop i p) q ≡ true
@@ -82,29 +82,32 @@ IsLeastQuotient-same head p t i none q = record {
 }
   where
     again : ((k : ℕ) × (k < i) × (0 < get_or head k 0) × (get_or p k 0 < t * get_or head k 0 + get_or head k 0)) ⊎ (((k : ℕ) → k < i → get_or head k 0 ≡ 0) × (t ≡ 2 ^ 64 - 1)) →
-      ((k : ℕ) × (k < i + 1) × (0 < get_or head k 0) × (get_or p k 0 < t * get_or head k 0 + get_or head k 0)) ⊎ (((k : ℕ) → k < i + 1 → get_or head k 0 ≡ 0) × (t ≡ 2 ^ 64 - 1))
+        ((k : ℕ) × (k < i + 1) × (0 < get_or head k 0) × (get_or p k 0 < t * get_or head k 0 + get_or head k 0)) ⊎ (((k : ℕ) → k < i + 1 → get_or head k 0 ≡ 0) × (t ≡ 2 ^ 64 - 1))
     again (inl (k, l, pos, over)) = inl (k, omega arith, pos, over)
     again (inr (zero, top)) = inr (below_more (λ k. get_or head k 0 ≡ 0) i zero none, top)
 
 pub IsLeastQuotient-lower : (head p : List ℕ) (t r i : ℕ) → 0 < get_or head i 0 → get_or p i 0 < 2 ^ 64 → r ≡ min t (get_or p i 0 / get_or head i 0) →
-  IsLeastQuotient head p t i → IsLeastQuotient head p r (i + 1)
+    IsLeastQuotient head p t i → IsLeastQuotient head p r (i + 1)
 IsLeastQuotient-lower head p t r i pos small is q = record {
   fits = below_more (λ k. r * get_or head k 0 ≤ get_or p k 0) i
-    (λ k l. fits_less r t (get_or head k 0) (get_or p k 0) (omega arith) (q.fits k l))
-    (fits_less r (get_or p i 0 / get_or head i 0) (get_or head i 0) (get_or p i 0) (omega arith) (quotient (get_or p i 0) (get_or head i 0) pos).0);
+      (λ k l. fits_less r t (get_or head k 0) (get_or p k 0) (omega arith) (q.fits k l))
+      (fits_less r (get_or p i 0 / get_or head i 0) (get_or head i 0) (get_or p i 0) (omega arith) (quotient (get_or p i 0) (get_or head i 0) pos).0);
   some = lowest q.some (either t (get_or p i 0 / get_or head i 0));
 }
   where
     either : (a b : ℕ) → (b ≤ a) ⊎ (a < b)
     either a b = grind arith
+
     here : r ≡ get_or p i 0 / get_or head i 0 → get_or p i 0 < r * get_or head i 0 + get_or head i 0
     here e = let over : get_or p i 0 < (get_or p i 0 / get_or head i 0) * get_or head i 0 + get_or head i 0 = (quotient (get_or p i 0) (get_or head i 0) pos).1 in
         subst (λ z. get_or p i 0 < z * get_or head i 0 + get_or head i 0) (sym e) over
+
     small_quotient : (x h : ℕ) → x / h ≤ x
     small_quotient x h = omega arith
+
     lowest : ((k : ℕ) × (k < i) × (0 < get_or head k 0) × (get_or p k 0 < t * get_or head k 0 + get_or head k 0)) ⊎ (((k : ℕ) → k < i → get_or head k 0 ≡ 0) × (t ≡ 2 ^ 64 - 1)) →
-      (get_or p i 0 / get_or head i 0 ≤ t) ⊎ (t < get_or p i 0 / get_or head i 0) →
-      ((k : ℕ) × (k < i + 1) × (0 < get_or head k 0) × (get_or p k 0 < r * get_or head k 0 + get_or head k 0)) ⊎ (((k : ℕ) → k < i + 1 → get_or head k 0 ≡ 0) × (r ≡ 2 ^ 64 - 1))
+        (get_or p i 0 / get_or head i 0 ≤ t) ⊎ (t < get_or p i 0 / get_or head i 0) →
+        ((k : ℕ) × (k < i + 1) × (0 < get_or head k 0) × (get_or p k 0 < r * get_or head k 0 + get_or head k 0)) ⊎ (((k : ℕ) → k < i + 1 → get_or head k 0 ≡ 0) × (r ≡ 2 ^ 64 - 1))
     lowest some (inl le) = inl (i, omega arith, pos, here (omega arith))
     lowest (inl (k, l, positive, over)) (inr lt) =
         let same : r ≡ t = omega arith in
@@ -121,14 +124,16 @@ IsTimes-from head p times i e l pos q = record {
   where
     before_or_after : (k i : ℕ) → (k < i) ⊎ (i ≤ k)
     before_or_after k i = grind arith
+
     fits_at : (k : ℕ) → get_or (scale times head) k 0 ≡ times * get_or head k 0 → (k < i) ⊎ (i ≤ k) → get_or (scale times head) k 0 ≤ get_or p k 0
     fits_at k at (inl below) = let fit : times * get_or head k 0 ≤ get_or p k 0 = q.fits k below in omega arith
     fits_at k at (inr past) =
         let none : get_or head k 0 ≡ 0 = get_or_past head k 0 (omega arith) in
         let fit : times * get_or head k 0 ≤ get_or p k 0 = nothing_fits times (get_or head k 0) (get_or p k 0) none in
         omega arith
+
     most_by : (s : ℕ) → Divides (scale s head) p →
-      ((k : ℕ) × (k < i) × (0 < get_or head k 0) × (get_or p k 0 < times * get_or head k 0 + get_or head k 0)) ⊎ (((k : ℕ) → k < i → get_or head k 0 ≡ 0) × (times ≡ 2 ^ 64 - 1)) → s ≤ times
+        ((k : ℕ) × (k < i) × (0 < get_or head k 0) × (get_or p k 0 < times * get_or head k 0 + get_or head k 0)) ⊎ (((k : ℕ) → k < i → get_or head k 0 ≡ 0) × (times ≡ 2 ^ 64 - 1)) → s ≤ times
     most_by s d (inl (k, below, positive, over)) =
         let at : get_or (scale s head) k 0 ≡ s * get_or head k 0 = get_or-scale s head k in
         let fit : get_or (scale s head) k 0 ≤ get_or p k 0 = Divides-at (scale s head) p d k in

@@ -19,7 +19,7 @@ get_or-written end before now i w =
     ap (λ k. get_or now k 0) (sym index) ∙ sym there ∙ same ∙ here ∙ ap (λ k. get_or before k 0) index
 
 pub IsWritten-more : (end before now : List ℕ) (i v : ℕ) → i < length now → length now ≡ length end → length now ≡ length before →
-  v ≡ get_or end i 0 → IsWritten end before now i → IsWritten end before (set now i v) (i + 1)
+    v ≡ get_or end i 0 → IsWritten end before now i → IsWritten end before (set now i v) (i + 1)
 IsWritten-more end before now i v l e f g w =
     let l-end : i < length end = omega arith in
     let l-before : i < length before = omega arith in
@@ -29,7 +29,7 @@ IsWritten-more end before now i v l e f g w =
     }
   where
     drop_after : (now before : List ℕ) (i v : ℕ) → i < length now → i < length before → drop i now ≡ drop i before →
-      drop (i + 1) (set now i v) ≡ drop (i + 1) before
+        drop (i + 1) (set now i v) ≡ drop (i + 1) before
     drop_after now before i v l k h =
         let below : i < i + 1 = omega arith in
         let a : drop i now ≡ get_or now i 0 ∷ drop (i + 1) now = drop_more now i 0 l in

@@ -147,6 +147,11 @@ impl Point {
         requires fits { All (λ x. x < 2 ^ 64) (add (subtract self.old (scale times head.now)) (scale times tail.now)) }
         ensures { self.new ≡ add (subtract self.old (scale times head.now)) (scale times tail.now) }
     {
-        slices::shift_by(self.places.as_mut_slice(), head.as_slice(), tail.as_slice(), times);
+        slices::shift_by(
+            self.places.as_mut_slice(),
+            head.as_slice(),
+            tail.as_slice(),
+            times,
+        );
     }
 }

@@ -13,7 +13,7 @@ loop-r-preserved c =
     let same : get_or whole r 0 ≡ value = get_or-column_of c.args.rows c.args.columns c.args.j c.args.entries.now r (omega arith) in
     record {
       done = take_more_set c.loop-r.column r value (omega arith) ∙ ap (λ l. l ++ value ∷ []) c.loop-r.invariant.done ∙
-        ap (λ x. take r whole ++ x ∷ []) (sym same) ∙ sym (take_more whole r 0 (omega arith));
+          ap (λ x. take r whole ++ x ∷ []) (sym same) ∙ sym (take_more whole r 0 (omega arith));
       places = length-set c.loop-r.column r value ∙ c.loop-r.invariant.places;
     }
 
@@ -23,5 +23,5 @@ returns c =
     let len : length whole ≡ c.args.rows = length-column_of c.args.rows c.args.columns c.args.j c.args.entries.now in
     let ended : c.loop-r.r ≡ c.args.rows = omega arith in
     let all : take c.args.rows c.loop-r.column ≡ whole =
-        ap (λ n. take n c.loop-r.column) (sym ended) ∙ c.loop-r.invariant.done ∙ take_all c.loop-r.r whole (omega arith) in
+    ap (λ n. take n c.loop-r.column) (sym ended) ∙ c.loop-r.invariant.done ∙ take_all c.loop-r.r whole (omega arith) in
     subst (λ l. IfOk c.from_slice.result (λ p. p ≡ l)) all c.from_slice.ensures

@@ -30,7 +30,7 @@ loop-i-preserved c =
     let sum : get_or (add (scale c.args.x c.args.column.now) c.args.degree.now) c.loop-i.i 0 ≡ get_or (scale c.args.x c.args.column.now) c.loop-i.i 0 + get_or c.args.degree.now c.loop-i.i 0 = get_or-add (scale c.args.x c.args.column.now) c.args.degree.now c.loop-i.i in
     let value : get_or c.loop-i.degree c.loop-i.i 0 + c.args.x * get_or c.args.column.now c.loop-i.i 0 ≡ get_or (add (scale c.args.x c.args.column.now) c.args.degree.now) c.loop-i.i 0 = omega arith in
     IsWritten-more (add (scale c.args.x c.args.column.now) c.args.degree.now) c.args.degree.now c.loop-i.degree c.loop-i.i
-      (get_or c.loop-i.degree c.loop-i.i 0 + c.args.x * get_or c.args.column.now c.loop-i.i 0) (omega arith) (omega arith) (omega arith) value c.loop-i.invariant
+    (get_or c.loop-i.degree c.loop-i.i 0 + c.args.x * get_or c.args.column.now c.loop-i.i 0) (omega arith) (omega arith) (omega arith) value c.loop-i.invariant
 
 pub returns : goal.returns
 returns c =

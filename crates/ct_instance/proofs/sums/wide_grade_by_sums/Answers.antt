@@ -14,10 +14,10 @@ sum_of-requires c =
 pub loop-j-preserved : goal.loop-j-preserved
 loop-j-preserved c =
     let more : weighted (drop c.loop-j.j c.args.sums.now) (drop c.loop-j.j c.args.p.now) ≡
-        get_or c.args.sums.now c.loop-j.j 0 * get_or c.args.p.now c.loop-j.j 0 + weighted (drop (c.loop-j.j + 1) c.args.sums.now) (drop (c.loop-j.j + 1) c.args.p.now) =
-        Grades.weighted_more c.args.sums.now c.args.p.now c.loop-j.j (omega arith) (omega arith) in
+    get_or c.args.sums.now c.loop-j.j 0 * get_or c.args.p.now c.loop-j.j 0 + weighted (drop (c.loop-j.j + 1) c.args.sums.now) (drop (c.loop-j.j + 1) c.args.p.now) =
+    Grades.weighted_more c.args.sums.now c.args.p.now c.loop-j.j (omega arith) (omega arith) in
     let small-sum : get_or c.args.sums.now c.loop-j.j 0 ≤ 16000000 = c.requires.sum_limit c.loop-j.j 0 (omega arith) in
     let small : get_or c.args.p.now c.loop-j.j 0 ≤ 32000000000000 = c.requires.limit c.loop-j.j 0 (omega arith) in
     let product : get_or c.args.sums.now c.loop-j.j 0 * get_or c.args.p.now c.loop-j.j 0 ≤ 16000000 * 32000000000000 =
-        Grades.product-limit (get_or c.args.sums.now c.loop-j.j 0) (get_or c.args.p.now c.loop-j.j 0) 16000000 32000000000000 small-sum small in
+    Grades.product-limit (get_or c.args.sums.now c.loop-j.j 0) (get_or c.args.p.now c.loop-j.j 0) 16000000 32000000000000 small-sum small in
     record { so_far = omega arith; bound = omega arith }

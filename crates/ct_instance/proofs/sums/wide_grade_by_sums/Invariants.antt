@@ -5,4 +5,5 @@ use Rattle.ct_instance.proofs.sums.wide_grade_by_sums.Given as goal
 abbrev pub invariant-loop-j : goal.invariant-loop-j
 invariant-loop-j l = record {
   so_far : l.sum + weighted (drop l.j l.sums) (drop l.j l.p) ≡ weighted l.sums l.p;
-  bound : l.sum ≤ l.j * 512000000000000000000 }
+  bound : l.sum ≤ l.j * 512000000000000000000;
+}

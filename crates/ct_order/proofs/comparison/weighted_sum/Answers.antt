@@ -18,10 +18,10 @@ loop-i-preserved c =
     let cost-fits : SFits w64 cost = fits_signed_from_abs w64 cost (omega arith) in
     let same : to_z w128 (of_z w128 c.with_product-sum.result) ≡ c.with_product-sum.result = to_z-of_z w128 c.with_product-sum.result fits in
     let value : to_z w128 (of_z w128 c.with_product-sum.result) ≡ sum +ℤ (cost *ℤ pos x) =
-        same ∙ c.with_product-sum.ensures ∙ ap (λ z. sum +ℤ (z *ℤ pos x)) (to_z-of_z w64 cost cost-fits) in
+    same ∙ c.with_product-sum.ensures ∙ ap (λ z. sum +ℤ (z *ℤ pos x)) (to_z-of_z w64 cost cost-fits) in
     record {
       so_far = ap (λ z. z +ℤ cost_of (drop (c.loop-i.i + 1) c.args.costs.now) (drop (c.loop-i.i + 1) c.args.p.now)) value ∙
-        cost_more sum c.args.costs.now c.args.p.now c.loop-i.i in-cs in-p ∙ c.loop-i.invariant.so_far;
+          cost_more sum c.args.costs.now c.args.p.now c.loop-i.i in-cs in-p ∙ c.loop-i.invariant.so_far;
       bound = subst (λ z. nat_abs z ≤ (c.loop-i.i + 1) * 32000000000000000000000000) (sym value)
-        (abs-product sum cost x c.loop-i.i c.loop-i.invariant.bound small (c.requires.limit c.loop-i.i 0 in-p));
+          (abs-product sum cost x c.loop-i.i c.loop-i.invariant.bound small (c.requires.limit c.loop-i.i 0 in-p));
     }

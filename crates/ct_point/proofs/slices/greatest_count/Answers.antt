@@ -7,10 +7,10 @@ pub loop-i-preserved : goal.loop-i-preserved
 loop-i-preserved c =
     let small : get_or c.args.p.now c.loop-i.i 0 < 2 ^ 64 = omega (arith, c.type_inv.p c.loop-i.i) in
     elim c.if-head-i-gt0.branch [
-      then-head-i-gt0 w ↦ IsLeastQuotient-lower c.args.head.now c.args.p.now c.loop-i.times c.if-head-i-gt0.times c.loop-i.i (omega arith) small (omega (arith, w.min-times.ensures)) c.loop-i.invariant
-    | else-head-i-gt0 w ↦
-        let none : get_or c.args.head.now c.loop-i.i 0 ≡ 0 = omega arith in
-        subst (λ t. IsLeastQuotient c.args.head.now c.args.p.now t (c.loop-i.i + 1)) (sym w.times-is) (IsLeastQuotient-same c.args.head.now c.args.p.now c.loop-i.times c.loop-i.i none c.loop-i.invariant)
+      | then-head-i-gt0 w ↦ IsLeastQuotient-lower c.args.head.now c.args.p.now c.loop-i.times c.if-head-i-gt0.times c.loop-i.i (omega arith) small (omega (arith, w.min-times.ensures)) c.loop-i.invariant
+      | else-head-i-gt0 w ↦
+          let none : get_or c.args.head.now c.loop-i.i 0 ≡ 0 = omega arith in
+          subst (λ t. IsLeastQuotient c.args.head.now c.args.p.now t (c.loop-i.i + 1)) (sym w.times-is) (IsLeastQuotient-same c.args.head.now c.args.p.now c.loop-i.times c.loop-i.i none c.loop-i.invariant)
     ]
 
 pub returns : goal.returns

@@ -1,0 +1,38 @@
+//! Laws of the definitions, as contracts of functions that do nothing.
+
+ghost use Rattle.ct_instance.specs.Laws.{FiberIsListed, LeastPointIsLeast, SolutionsAreInFibers, AnswerIsLeastSolution, AnswerIsShort, ShortHasNoSolution, ImprovableIsTested, TestHeadIsTested, ImprovableAboveTestHead, TestHeadIsMinimal, TestMoveIsDisjoint, TestListIsOne, TestListsGrow};
+
+/// The listed fiber has exactly the points of its degree, and `least_of` is the one point that is below all others.
+pub fn fiber_has_one_least_point()
+    ensures listed { FiberIsListed }
+    ensures least { LeastPointIsLeast }
+{}
+
+/// The answer to a right-hand side is the unique least solution with its costs; where there is none, it is the
+/// smallest artificial total.
+pub fn answer_is_least_solution()
+    ensures fibers { SolutionsAreInFibers }
+    ensures optimum { AnswerIsLeastSolution }
+    ensures infeasible { AnswerIsShort }
+    ensures exactly { ShortHasNoSolution }
+{}
+
+/// The tests `is_improvable` and `is_test_head` agree with what they are named after.
+pub fn tests_agree()
+    ensures improvable { ImprovableIsTested }
+    ensures test_head { TestHeadIsTested }
+{}
+
+/// A point is improvable exactly above a test head; test heads are minimal, and share no variable with their tails.
+pub fn test_heads_decide()
+    ensures above { ImprovableAboveTestHead }
+    ensures minimal { TestHeadIsMinimal }
+    ensures disjoint { TestMoveIsDisjoint }
+{}
+
+/// The test list of a grade is the one list that is sound, complete and in order, and that of a greater grade begins
+/// with it.
+pub fn test_list_is_one()
+    ensures one { TestListIsOne }
+    ensures grows { TestListsGrow }
+{}

@@ -1,7 +1,12 @@
 -- The columns that entries row after row make.
-use Rattle.std.proofs.Common.{◌≡◌, ℕ, ◌+◌, ◌*◌, ◌≤◌, ◌<◌, All, List, [], ◌∷◌, ◌++◌, length, drop, get_or, map, refl, sym, ap, ◌∙◌, arith, zero, suc}
-use Rattle.std.proofs.lemmas.List.{get_or-drop, length-map, length_push}
-use Rattle.std.proofs.lemmas.List.Elements.{All-drop, All-cons, All-nil}
+use Rattle.std.proofs.Common.{◌≡◌, ℕ, ◌+◌, ◌*◌, ◌≤◌, ◌<◌, ◌⊎◌, inl, inr, subst, All, List, [], ◌∷◌, ◌++◌, length, drop, get_or, set, map, refl, sym, ap, ◌∙◌, arith, zero, suc}
+use Rattle.std.proofs.lemmas.List.{get_or-drop, get_or_past, get_or-map, set-append_left, length-map, length_push}
+use Rattle.std.proofs.lemmas.List.Elements.{All-drop, All-cons, All-nil, All-map, All-weaker}
+use Rattle.ct_vectors.specs.Vectors.{total, zeros, unit}
+use Rattle.ct_vectors.proofs.Sums.{length-zeros}
+use Rattle.ct_vectors.proofs.Places.{zeros-append}
+use Rattle.ct_instance.specs.Instance.{IsColumn}
+use Rattle.ct_instance.proofs.Grades.{total-limit}
 use Rattle.ct_instance.specs.Made.{column_of, columns_of, indices}
 
 pub length-column_of : (m n j : ℕ) (es : List ℕ) → length (column_of m n j es) ≡ m
@@ -23,3 +28,55 @@ length-indices (suc n) = let push : length (indices n ++ n ∷ []) ≡ length (i
 
 pub length-columns_of : (m n : ℕ) (es : List ℕ) → length (columns_of m n es) ≡ n
 length-columns_of m n es = length-map (indices n) (λ j. column_of m n j es) ∙ length-indices n
+
+-- what a bound on the entries says of a column
+pub All-column_of : (k m n j : ℕ) (es : List ℕ) → All (λ a. a ≤ k) es → All (λ a. a ≤ k) (column_of m n j es)
+All-column_of k zero n j es h = All-nil (λ a. a ≤ k)
+All-column_of k (suc m) n j es h =
+    All-cons (λ a. a ≤ k) (get_or es j 0) (column_of m n j (drop n es)) (read_limit es j h)
+    (All-column_of k m n j (drop n es) (All-drop (λ a. a ≤ k) n es h))
+  where
+    place : (i n : ℕ) → (i < n) ⊎ (n ≤ i)
+    place i n = grind arith
+
+    read_limit : (es : List ℕ) (j : ℕ) → All (λ a. a ≤ k) es → get_or es j 0 ≤ k
+    read_limit es j h = read_by es j h (place j (length es))
+      where
+        read_by : (es : List ℕ) (j : ℕ) → All (λ a. a ≤ k) es → (j < length es) ⊎ (length es ≤ j) → get_or es j 0 ≤ k
+        read_by es j h (inl l) = h j 0 l
+        read_by es j h (inr l) = let none : get_or es j 0 ≡ 0 = get_or_past es j 0 l in omega arith
+
+-- each column has m entries within the limit
+pub columns-limit : (k m n : ℕ) (es : List ℕ) → All (λ a. a ≤ k) es → All (λ c. (length c ≡ m) × All (λ a. a ≤ k) c) (columns_of m n es)
+columns-limit k m n es h =
+    All-map (λ c. (length c ≡ m) × All (λ a. a ≤ k) c) (λ j. column_of m n j es) (indices n)
+    (λ i d l. (length-column_of m n (get_or (indices n) i d) es, All-column_of k m n (get_or (indices n) i d) es h))
+
+pub columns-total : (m n : ℕ) (es : List ℕ) → m ≤ 16 → All (λ a. a ≤ 1000000) es → All (λ c. total c ≤ 16000000) (columns_of m n es)
+columns-total m n es few h = All-weaker (λ c. (length c ≡ m) × All (λ a. a ≤ 1000000) c) (λ c. total c ≤ 16000000) small (columns_of m n es) (columns-limit 1000000 m n es h)
+  where
+    small : (c : List ℕ) → (length c ≡ m) × All (λ a. a ≤ 1000000) c → total c ≤ 16000000
+    small c (len, limit) =
+        let bound : total c ≤ length c * 1000000 = total-limit 1000000 c limit in
+        let most : length c * 1000000 ≤ 16 * 1000000 = omega arith in
+        omega arith
+
+-- columns that have entries within the limit and a positive sum are columns of an instance
+pub are_columns : (m n : ℕ) (es : List ℕ) → All (λ a. a ≤ 1000000) es → All (λ s. 1 ≤ s) (map total (columns_of m n es)) → All (IsColumn m) (columns_of m n es)
+are_columns m n es limit positive i d l =
+    let at : (length (get_or (columns_of m n es) i d) ≡ m) × All (λ a. a ≤ 1000000) (get_or (columns_of m n es) i d) = columns-limit 1000000 m n es limit i d l in
+    let in-sums : i < length (map total (columns_of m n es)) = subst (λ k. i < k) (sym (length-map (columns_of m n es) total)) l in
+    let sum : 1 ≤ get_or (map total (columns_of m n es)) i 0 = positive i 0 in-sums in
+    let same : get_or (map total (columns_of m n es)) i 0 ≡ total (get_or (columns_of m n es) i d) = get_or-map total (columns_of m n es) i d 0 l in
+    record { entries = at.0; limit = at.1; positive = subst (λ s. 1 ≤ s) same sum }
+
+set_in_zeros : (n j : ℕ) → j < n → set (zeros n) j 1 ≡ unit n j
+set_in_zeros zero j l = absurd (omega arith)
+set_in_zeros (suc n) zero l = refl
+set_in_zeros (suc n) (suc j) l = ap (λ p. 0 ∷ p) (set_in_zeros n j (omega arith))
+
+-- writing 1 into a zero point makes a unit
+pub set-zeros : (n m j : ℕ) → j < n → set (zeros (n + m)) j 1 ≡ unit n j ++ zeros m
+set-zeros n m j l =
+    let len : length (zeros n) ≡ n = length-zeros n in
+    ap (λ p. set p j 1) (sym (zeros-append n m)) ∙ set-append_left (zeros n) (zeros m) j 1 (omega arith) ∙ ap (λ p. p ++ zeros m) (set_in_zeros n j l)

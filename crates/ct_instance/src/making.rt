@@ -1,5 +1,5 @@
 //! From the numbers of a file to the columns and sums of an instance.
-ghost use Rattle.std.specs.Prelude.{◌≡◌, ◌*◌, ◌^◌, ◌<◌, ◌≤◌, None, Some, length, map, nat_abs, nat_lt, nat_eq, position, All, IfOk, IfSome, MatchResult};
+ghost use Rattle.std.specs.Prelude.{◌≡◌, ◌*◌, ◌^◌, ◌<◌, ◌≤◌, None, Some, length, map, nat_abs, nat_lt, nat_eq, position, All, IfOk, OnOk, IfSome, IfNone, MatchResult};
 ghost use Rattle.ct_vectors.specs.Vectors.{total};
 ghost use Rattle.ct_instance.specs.Made.{column_of, columns_of, refused_entry, refused_sum, refused_cost};
 
@@ -14,6 +14,7 @@ const COST_LIMIT: u64 = 1_000_000_000_000;
 
 fn first_over(numbers: &[u64], limit: u64) -> Option<usize>
     ensures place { result ≡ position (λ a. nat_lt limit a) numbers.now }
+    ensures none { IfNone result (All (λ a. a ≤ limit) numbers.now) }
     ensures within { IfSome result (λ k. k < length numbers.now) }
 {
     numbers.iter().position(|a| *a > limit)
@@ -21,6 +22,7 @@ fn first_over(numbers: &[u64], limit: u64) -> Option<usize>
 
 fn first_zero(numbers: &[u64]) -> Option<usize>
     ensures place { result ≡ position (λ a. nat_eq a 0) numbers.now }
+    ensures none { IfNone result (All (λ a. 1 ≤ a) numbers.now) }
     ensures within { IfSome result (λ k. k < length numbers.now) }
 {
     numbers.iter().position(|a| *a == 0)
@@ -28,6 +30,7 @@ fn first_zero(numbers: &[u64]) -> Option<usize>
 
 fn first_cost_over(costs: &[i64], limit: u64) -> Option<usize>
     ensures place { result ≡ position (λ c. nat_lt limit (nat_abs c)) costs.now }
+    ensures none { IfNone result (All (λ c. nat_abs c ≤ limit) costs.now) }
     ensures within { IfSome result (λ k. k < length costs.now) }
 {
     costs.iter().position(|c| c.unsigned_abs() > limit)
@@ -37,7 +40,8 @@ fn first_cost_over(costs: &[i64], limit: u64) -> Option<usize>
 pub fn check_entries(columns: u32, entries: &[u64]) -> Result<(), BadInstance>
     requires some { 1 ≤ columns }
     requires few { length entries.now < 2 ^ 31 }
-    ensures { MatchResult result (λ _. refused_entry columns entries.now ≡ None) (λ e. refused_entry columns entries.now ≡ Some e) }
+    ensures limit { OnOk result (All (λ a. a ≤ 1000000) entries.now) }
+    ensures refused { MatchResult result (λ _. refused_entry columns entries.now ≡ None) (λ e. refused_entry columns entries.now ≡ Some e) }
 {
     match first_over(entries, ENTRY_LIMIT) {
         None => Ok(()),
@@ -51,7 +55,8 @@ pub fn check_entries(columns: u32, entries: &[u64]) -> Result<(), BadInstance>
 // Refuses the first column whose sum is 0.
 pub fn check_sums(sums: &[u64]) -> Result<(), BadInstance>
     requires { length sums.now ≤ 64 }
-    ensures { MatchResult result (λ _. refused_sum sums.now ≡ None) (λ e. refused_sum sums.now ≡ Some e) }
+    ensures positive { OnOk result (All (λ s. 1 ≤ s) sums.now) }
+    ensures refused { MatchResult result (λ _. refused_sum sums.now ≡ None) (λ e. refused_sum sums.now ≡ Some e) }
 {
     match first_zero(sums) {
         None => Ok(()),
@@ -62,7 +67,8 @@ pub fn check_sums(sums: &[u64]) -> Result<(), BadInstance>
 // Refuses the first cost out of its limit.
 pub fn check_costs(costs: &[i64]) -> Result<(), BadInstance>
     requires { length costs.now ≤ 64 }
-    ensures { MatchResult result (λ _. refused_cost costs.now ≡ None) (λ e. refused_cost costs.now ≡ Some e) }
+    ensures limit { OnOk result (All (λ c. nat_abs c ≤ 1000000000000) costs.now) }
+    ensures refused { MatchResult result (λ _. refused_cost costs.now ≡ None) (λ e. refused_cost costs.now ≡ Some e) }
 {
     match first_cost_over(costs, COST_LIMIT) {
         None => Ok(()),

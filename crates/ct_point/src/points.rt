@@ -1,4 +1,4 @@
-ghost use Rattle.std.specs.Prelude.{◌≡◌, ℕ, ◌^◌, ◌<◌, ◌≤◌, List, length, slice_set, All, IfOk, IfSome, IsSome, ◌↔◌};
+ghost use Rattle.std.specs.Prelude.{◌≡◌, ℕ, ◌+◌, ◌-◌, ◌++◌, take, ◌^◌, ◌<◌, ◌≤◌, List, length, slice_set, All, IfOk, IfSome, IsSome, ◌↔◌};
 ghost use Rattle.ct_vectors.specs.Vectors.{add, subtract, scale, lcm, total, zeros, Divides, divides, disjoint, IsTimes};
 
 use crate::slices;
@@ -69,6 +69,22 @@ impl Point {
         ensures limit { length result.now ≤ 80 }
     {
         self.places.as_slice()
+    }
+
+    /// Makes the first coordinates 0, as many as are said, and the others those of the slice, in place.
+    pub fn copy_from_parts(&mut self, zero_count: usize, rest: &[u64])
+        requires { length self.old ≡ zero_count + length rest.now }
+        ensures { self.new ≡ zeros zero_count ++ rest.now }
+    {
+        slices::write_parts(self.places.as_mut_slice(), zero_count, rest);
+    }
+
+    /// Makes the last coordinates those of the slice, in place; the ones before stay.
+    pub fn write_end(&mut self, end: &[u64])
+        requires { length end.now ≤ length self.old }
+        ensures { self.new ≡ take (length self.old - length end.now) self.old ++ end.now }
+    {
+        slices::write_end(self.places.as_mut_slice(), end);
     }
 
     /// Writes one coordinate, counted from 0; the others stay.

@@ -1,6 +1,24 @@
 //! The loops of points, on slices of one length.
-ghost use Rattle.std.specs.Prelude.{◌≡◌, ◌^◌, ◌<◌, ◌≤◌, length, All};
-ghost use Rattle.ct_vectors.specs.Vectors.{add, subtract, scale, lcm, total, Divides, divides, disjoint, IsTimes};
+ghost use Rattle.std.specs.Prelude.{◌≡◌, ◌+◌, ◌-◌, ◌++◌, take, ◌^◌, ◌<◌, ◌≤◌, length, All};
+ghost use Rattle.ct_vectors.specs.Vectors.{zeros, add, subtract, scale, lcm, total, Divides, divides, disjoint, IsTimes};
+
+// The first places become 0 and the others those of the rest.
+pub fn write_parts(p: &mut [u64], zero_count: usize, rest: &[u64])
+    requires { length p.old ≡ zero_count + length rest.now }
+    ensures { p.new ≡ zeros zero_count ++ rest.now }
+{
+    p[..zero_count].fill(0);
+    p[zero_count..].copy_from_slice(rest);
+}
+
+// The last places become those of the end.
+pub fn write_end(p: &mut [u64], end: &[u64])
+    requires { length end.now ≤ length p.old }
+    ensures { p.new ≡ take (length p.old - length end.now) p.old ++ end.now }
+{
+    let at = p.len() - end.len();
+    p[at..].copy_from_slice(end);
+}
 
 // p becomes p + q.
 pub fn add_to(p: &mut [u64], q: &[u64])

@@ -1,4 +1,4 @@
-use Rattle.std.proofs.Common.{◌≡◌, ℕ, List, ◌+◌, ◌*◌, ◌≤◌, ◌<◌, [], ◌∷◌, ◌++◌, IfOk, length, take, get_or, arith, sym, ap, ◌∙◌, subst}
+use Rattle.std.proofs.Common.{◌≡◌, ℕ, List, ◌+◌, ◌*◌, [], ◌∷◌, ◌++◌, IfOk, length, take, get_or, arith, sym, ap, ◌∙◌, subst}
 use Rattle.std.proofs.lemmas.List.{take_more, take_more_set, take_all, length-set}
 use Rattle.ct_instance.specs.Made.{column_of}
 use Rattle.ct_instance.proofs.Entries.{length-column_of, get_or-column_of}

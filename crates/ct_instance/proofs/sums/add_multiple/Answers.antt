@@ -1,4 +1,4 @@
-use Rattle.std.proofs.Common.{◌≡◌, ◌+◌, ◌*◌, ◌≤◌, ◌<◌, ◌^◌, max, length, get_or, arith}
+use Rattle.std.proofs.Common.{◌≡◌, ◌+◌, ◌*◌, ◌≤◌, max, length, get_or, arith}
 use Rattle.ct_vectors.specs.Vectors.{add, scale, total}
 use Rattle.ct_vectors.proofs.Sums.{length-add, length-scale}
 use Rattle.ct_point.proofs.Places.{get_or-add, get_or-scale}

@@ -1,4 +1,4 @@
-use Rattle.std.proofs.Common.{◌≡◌, ◌+◌, ◌-◌, ◌*◌, ◌≤◌, ◌<◌, ◌^◌, length, drop, take, get_or, arith, sym, subst, ap, ◌∙◌}
+use Rattle.std.proofs.Common.{◌≡◌, ◌+◌, ◌-◌, ◌*◌, ◌≤◌, ◌<◌, ◌^◌, length, drop, take, get_or, arith, sym, subst}
 use Rattle.std.proofs.lemmas.List.{take_rest}
 use Rattle.ct_vectors.specs.Vectors.{total}
 use Rattle.ct_instance.specs.Instance.{weighted}

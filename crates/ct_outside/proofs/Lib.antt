@@ -1,4 +1,5 @@
 pub mod Appended
 pub mod Callers
+pub mod Consumed
 pub mod Counted
 pub mod FilesTold

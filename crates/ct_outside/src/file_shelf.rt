@@ -1,5 +1,6 @@
 // The files of the file system.
-ghost use Rattle.std.specs.Prelude.{◌≡◌, ◌≢◌, ◌≤◌, [], ℕ, List, vec_len, IsErrOf};
+ghost use Rattle.std.specs.Prelude.{◌≡◌, ◌≢◌, ◌≤◌, ◌⊎◌, [], ℕ, List, vec_len, OnOk, IsErrOf};
+ghost use Rattle.std.specs.Io.KnownBytes.{Consumes, IsAtEnd};
 ghost use Rattle.ct_outside.specs.Faults.{count_of};
 ghost use Rattle.ct_outside.specs.Shelf.{untold, Leaves, HasCause, failed_after};
 
@@ -87,10 +88,12 @@ fn read_file<R: Files>(rt: &R, path: &str, limit: u64, into: &mut Vec<u8>) -> Re
     Err(FetchFault::TooLong)
 }
 
-// Reads to the end of a file, or until the buffer has so many bytes.
+// Reads to the end of a file, or until the buffer, which is empty, has so many bytes.
 fn read_most<F: Read>(file: &mut F, most: u64, into: &mut Vec<u8>) -> Result<(), FetchFault>
-    requires { vec_len into.old ≤ most }
+    requires { into.old.items ≡ [] }
     ensures within { vec_len into.new ≤ most }
+    ensures read { OnOk result (Consumes (F.remaining file.old) (F.remaining file.new) into.new.items) }
+    ensures stops { OnOk result (IsAtEnd (F.remaining file.new) ⊎ (vec_len into.new ≡ most)) }
     ensures not_long { IsErrOf result FetchFault.TooLong → ⊥ }
 {
     let mut piece = [0; PIECE];
@@ -102,7 +105,7 @@ fn read_most<F: Read>(file: &mut F, most: u64, into: &mut Vec<u8>) -> Result<(),
         match file.read(&mut piece[..room]) {
             Ok(0) => return Ok(()),
             Ok(count) => into.extend_from_slice(&piece[..count])?,
-            Err(error) if error.kind() == ErrorKind::Interrupted => {}
+            Err(error) if error.kind() == ErrorKind::Interrupted => continue,
             Err(_) => return Err(FetchFault::Failed),
         }
     }

@@ -5,3 +5,4 @@ pub mod SessionText
 pub mod Reader
 pub mod FaultText
 pub mod Files
+pub mod FirstFault

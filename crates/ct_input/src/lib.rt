@@ -8,6 +8,7 @@
 mod draft;
 mod fault;
 mod instance_text;
+pub mod laws;
 mod lists;
 mod print;
 mod reader;

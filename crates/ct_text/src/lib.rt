@@ -11,5 +11,6 @@ mod print;
 mod token;
 
 pub use number::{NumberFault, natural, signed};
+pub use place::Place;
 pub use print::{push_natural, push_signed};
 pub use token::{Token, Tokens};

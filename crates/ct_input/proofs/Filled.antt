@@ -1,0 +1,172 @@
+-- The places of the two texts can each be filled.
+use Rattle.std.proofs.Common.{◌≡◌, ◌≢◌, ℕ, zero, suc, ◌-◌, ◌*◌, ◌≤◌, Bool, true, false, List, [], ◌∷◌, length, Option, Some, None, ℤ, refl, sym, ap, ◌∙◌, arith, lit≤}
+use Rattle.std.specs.Prelude.{codes}
+use Rattle.std.specs.Str.{bytes_eq}
+use Rattle.ct_input.specs.declared.script.Request.{Request}
+use Rattle.ct_input.specs.declared.script.Request.TheVariants.{Ask, Solve}
+use Rattle.ct_input.specs.declared.script.Phase.{Phase}
+use Rattle.ct_input.specs.declared.script.Script.{Script}
+use Rattle.ct_input.specs.declared.draft.Draft.{Draft}
+use Rattle.ct_input.specs.Grammar.{Grammar, done, nothing, word, number, signed, fork, barred, part, numbers, signeds, if_some, upto}
+use Rattle.ct_input.specs.InstanceText.{instance_text}
+use Rattle.ct_input.specs.SessionText.{request, no_request, requests, session, no_session, sessions, phase, no_phase, phases, request_count, session_text}
+use Rattle.ct_input.specs.FirstFault.{IsSpelling}
+use Rattle.ct_input.proofs.FirstFaults.{spelled, Fills, opens}
+
+false_is_not_true : false ≡ true → ⊥
+false_is_not_true e = cc
+
+-- ---- a part and what follows it
+
+opens_part : {A B : Type 0} (after mid : List ℕ) (g : Grammar A) (f : A → Grammar B) → Fills false mid g → ((x : A) → opens after (f x) ≡ mid) → opens after (part g f) ≡ opens mid g
+unfolding part opens Fills
+opens_part after mid (done x) f h follows = follows x
+opens_part after mid (nothing next) f h follows = absurd (false_is_not_true h.0)
+opens_part after mid (word w next) f h follows = refl
+opens_part after mid (number low high next) f h follows = refl
+opens_part after mid (signed size next) f h follows = refl
+opens_part after mid (fork w first second) f h follows = opens_part after mid second f h.1 follows
+opens_part after mid (barred w next) f h follows = opens_part after mid next f h.0 follows
+
+fills_part : {A B : Type 0} (whole : Bool) (after mid : List ℕ) (g : Grammar A) (f : A → Grammar B) → Fills false mid g → ((x : A) → Fills whole after (f x)) → ((x : A) → opens after (f x) ≡ mid) → Fills whole after (part g f)
+unfolding part opens Fills
+fills_part whole after mid (done x) f h more follows = more x
+fills_part whole after mid (nothing next) f h more follows = absurd (false_is_not_true h.0)
+fills_part whole after mid (word w next) f h more follows = (h.0, fills_part whole after mid next f h.1 more follows)
+fills_part whole after mid (number low high next) f h more follows = (h.0, h.1, λ n. fills_part whole after mid (next n) f (h.2 n) more follows)
+fills_part whole after mid (signed size next) f h more follows = (h.0, λ n. fills_part whole after mid (next n) f (h.1 n) more follows)
+fills_part whole after mid (fork w first second) f h more follows =
+    (fills_part whole after mid first f h.0 more follows, fills_part whole after mid second f h.1 more follows, ap (λ v. bytes_eq v w) (opens_part after mid second f h.1 follows) ∙ h.2)
+fills_part whole after mid (barred w next) f h more follows =
+    (fills_part whole after mid next f h.0 more follows, ap (λ v. bytes_eq v w) (opens_part after mid next f h.0 follows) ∙ h.1)
+
+-- ---- lists of numbers
+
+fills_numbers : (after : List ℕ) (count high : ℕ) → 1 ≤ high → Fills false after (numbers count high)
+unfolding numbers Fills opens
+fills_numbers after zero high h = tt
+fills_numbers after (suc count) high h = (omega arith, h, λ n. fills_part false after after (numbers count high) (λ ns. done (n ∷ ns)) (fills_numbers after count high h) (λ ns. tt) (λ ns. refl))
+
+fills_signeds : (after : List ℕ) (count size : ℕ) → 1 ≤ size → Fills false after (signeds count size)
+unfolding signeds Fills opens
+fills_signeds after zero size h = tt
+fills_signeds after (suc count) size h = (h, λ n. fills_part false after after (signeds count size) (λ ns. done (n ∷ ns)) (fills_signeds after count size h) (λ ns. tt) (λ ns. refl))
+
+-- ---- at most so many items
+
+module _ {X : Type 0} (after : List ℕ) (item : ℕ → Grammar (Option X)) (uses : X → ℕ) (over : Grammar (List X)) (fills_item : (spare : ℕ) → Fills false after (item spare)) (fills_over : Fills false after over)
+    (item_opens : (spare : ℕ) → opens after (item spare) ≡ after) (over_opens : opens after over ≡ after) where
+
+  some_opens : (found : Option X) (next : X → Grammar (List X)) → ((x : X) → opens after (next x) ≡ after) → opens after (if_some found next) ≡ after
+  unfolding opens
+  some_opens None next h = refl
+  some_opens (Some x) next h = h x
+
+  some_fills : (found : Option X) (next : X → Grammar (List X)) → ((x : X) → Fills false after (next x)) → Fills false after (if_some found next)
+  unfolding Fills
+  some_fills None next h = tt
+  some_fills (Some x) next h = h x
+
+  upto_fills : (count spare : ℕ) → Fills false after (upto item uses over count spare) × (opens after (upto item uses over count spare) ≡ after)
+  unfolding upto
+  upto_fills zero spare = (fills_over, over_opens)
+  upto_fills (suc count) spare =
+      let last : X → List X → Grammar (List X) = λ x xs. done (x ∷ xs) in
+      let more : X → Grammar (List X) = λ x. part (upto item uses over count (spare - uses x)) (last x) in
+      let last_fills : (x : X) (xs : List X) → Fills false after (last x xs) = λ x xs. unfold Fills in tt in
+      let last_opens : (x : X) (xs : List X) → opens after (last x xs) ≡ after = λ x xs. unfold opens in refl in
+      let more_fills : (x : X) → Fills false after (more x) = λ x. fills_part false after after (upto item uses over count (spare - uses x)) (last x) (upto_fills count (spare - uses x)).0 (last_fills x) (last_opens x) in
+      let more_opens : (x : X) → opens after (more x) ≡ after = λ x. opens_part after after (upto item uses over count (spare - uses x)) (last x) (upto_fills count (spare - uses x)).0 (last_opens x) ∙ (upto_fills count (spare - uses x)).1 in
+      (fills_part false after after (item spare) (λ found. if_some found more) (fills_item spare) (λ found. some_fills found more more_fills) (λ found. some_opens found more more_opens),
+       opens_part after after (item spare) (λ found. if_some found more) (fills_item spare) (λ found. some_opens found more more_opens) ∙ item_opens spare)
+
+-- ---- the session text
+
+abbrev end_word : List ℕ
+end_word = codes "end"
+
+right : 1 ≤ 1000000000000
+right = lit≤ tt
+
+fills_request : (m : ℕ) → Fills false end_word (request m)
+unfolding request Fills opens
+fills_request m =
+    (fills_part false end_word end_word (numbers m 1000000000000) (λ b. done (Some (Ask b))) (fills_numbers end_word m 1000000000000 right) (λ b. tt) (λ b. refl),
+     (fills_part false end_word end_word (numbers m 1000000000000) (λ b. done (Some (Solve b))) (fills_numbers end_word m 1000000000000 right) (λ b. tt) (λ b. refl), tt, refl),
+     refl)
+
+opens_request : (m : ℕ) → opens end_word (request m) ≡ end_word
+unfolding request opens
+opens_request m = refl
+
+fills_no_request : Fills false end_word no_request
+unfolding Fills opens
+fills_no_request = ((tt, refl), refl)
+
+opens_no_request : opens end_word no_request ≡ end_word
+unfolding opens
+opens_no_request = refl
+
+fills_requests : (m spare : ℕ) → Fills false end_word (requests m spare) × (opens end_word (requests m spare) ≡ end_word)
+fills_requests m spare = upto_fills end_word (λ _. request m) (λ _. 1) no_request (λ _. fills_request m) fills_no_request (λ _. opens_request m) opens_no_request spare spare
+
+fills_session : (m spare : ℕ) → Fills false end_word (session m spare)
+unfolding session Fills opens
+fills_session m spare = (fills_part false end_word end_word (requests m spare) (λ rs. done (Some rs)) (fills_requests m spare).0 (λ rs. tt) (λ rs. refl), tt, refl)
+
+opens_session : (m spare : ℕ) → opens end_word (session m spare) ≡ end_word
+unfolding session opens
+opens_session m spare = refl
+
+fills_no_session : Fills false end_word no_session
+unfolding Fills opens
+fills_no_session = (tt, refl)
+
+opens_no_session : opens end_word no_session ≡ end_word
+unfolding opens
+opens_no_session = refl
+
+fills_sessions : (m spare : ℕ) → Fills false end_word (sessions m spare) × (opens end_word (sessions m spare) ≡ end_word)
+fills_sessions m spare = upto_fills end_word (session m) length no_session (fills_session m) fills_no_session (opens_session m) opens_no_session 16 spare
+
+fills_phase : (m spare : ℕ) → Fills false end_word (phase m spare)
+unfolding phase Fills opens
+fills_phase m spare =
+    ((omega arith, lit≤ tt, λ target. fills_part false end_word end_word (sessions m spare) (λ ss. done (Some (record { target = target; sessions = ss }))) (fills_sessions m spare).0 (λ ss. tt) (λ ss. refl)), tt, refl)
+
+opens_phase : (m spare : ℕ) → opens end_word (phase m spare) ≡ end_word
+unfolding phase opens
+opens_phase m spare = refl
+
+fills_no_phase : Fills false end_word no_phase
+unfolding Fills opens
+fills_no_phase = (tt, refl)
+
+opens_no_phase : opens end_word no_phase ≡ end_word
+unfolding opens
+opens_no_phase = refl
+
+fills_phases : (m spare : ℕ) → Fills false end_word (phases m spare) × (opens end_word (phases m spare) ≡ end_word)
+fills_phases m spare = upto_fills end_word (phase m) (λ p. request_count p.sessions) no_phase (fills_phase m) fills_no_phase (opens_phase m) opens_no_phase 64 spare
+
+pub fills_session_text : (m : ℕ) → Fills true [] (session_text m)
+unfolding session_text Fills opens
+fills_session_text m =
+    let closing : List Phase → Grammar Script = λ ps. word (codes "end") (nothing (done (record { phases = ps }))) in
+    (record { some = λ e. cc; plain = refl }, (record { some = λ e. cc; plain = refl },
+      fills_part true [] end_word (phases m 100000) closing (fills_phases m 100000).0 (λ ps. (record { some = λ e. cc; plain = refl }, (refl, (record { phases = ps }, refl)))) (λ ps. refl)))
+
+-- ---- the instance text
+
+pub fills_instance_text : Fills true [] instance_text
+unfolding instance_text Fills opens
+fills_instance_text =
+    let last : ℕ → ℕ → List ℕ → List ℤ → Draft = λ m n entries costs. record { rows = m; columns = n; entries = entries; costs = costs } in
+    let closing : ℕ → ℕ → List ℕ → List ℤ → Grammar Draft = λ m n entries costs. word (codes "end") (nothing (done (last m n entries costs))) in
+    let costly : ℕ → ℕ → List ℕ → Grammar Draft = λ m n entries. word (codes "cost") (part (signeds n 1000000000000) (closing m n entries)) in
+    (record { some = λ e. cc; plain = refl }, (record { some = λ e. cc; plain = refl }, (record { some = λ e. cc; plain = refl }, (omega arith, omega arith, λ m.
+     (record { some = λ e. cc; plain = refl }, (omega arith, omega arith, λ n.
+      (record { some = λ e. cc; plain = refl }, fills_part true [] (codes "cost") (numbers (m * n) 1000000) (costly m n) (fills_numbers (codes "cost") (m * n) 1000000 (lit≤ tt))
+        (λ entries. (record { some = λ e. cc; plain = refl }, fills_part true [] (codes "end") (signeds n 1000000000000) (closing m n entries) (fills_signeds (codes "end") n 1000000000000 right)
+          (λ costs. (record { some = λ e. cc; plain = refl }, (refl, (last m n entries costs, refl)))) (λ costs. refl)))
+        (λ entries. refl))))))))

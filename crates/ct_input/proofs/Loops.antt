@@ -1,0 +1,112 @@
+-- Items read one after the other, as a loop does.
+use Rattle.std.proofs.Common.{◌≡◌, ℕ, zero, suc, ◌-◌, ◌+◌, ◌≤◌, ◌<◌, List, [], ◌∷◌, ◌++◌, Option, Some, None, Result, Ok, Err, ℤ, refl, sym, ap, subst, ◌∙◌, append_assoc, length, arith}
+use Rattle.std.proofs.lemmas.List.{append-nil}
+use Rattle.ct_input.specs.declared.fault.Fault.{Fault}
+use Rattle.ct_input.specs.declared.fault.InputStop.{InputStop}
+use Rattle.ct_input.specs.declared.fault.InputStop.TheVariants as stops
+use Rattle.ct_input.specs.Sheet.{Sheet, ◌>>=◌, Fails}
+use Rattle.ct_input.specs.Grammar.{Grammar, done, part, read, token_at, number_in, signed_in, numbers, signeds, upto, if_some}
+use Rattle.ct_input.proofs.Parts.{read_part}
+
+-- what was read before, and what is still read
+abbrev pub with_front : {X : Type 0} → List X → Result (List X × Sheet) Fault → Result (List X × Sheet) Fault
+with_front front read = read >>= λ x. Ok (front ++ x.0, x.1)
+
+-- an item more, and what is still read
+abbrev pub with_item : {X : Type 0} → X → Result (List X × Sheet) Fault → Result (List X × Sheet) Fault
+with_item x read = read >>= λ y. Ok (x ∷ y.0, y.1)
+
+-- ---- a loop's step, its exits and its end
+
+regroup : {X : Type 0} (front : List X) (x : X) (read : Result (List X × Sheet) Fault) → with_front front (with_item x read) ≡ with_front (front ++ x ∷ []) read
+regroup {X} front x (Ok y) = ap (λ (xs : List X). Ok (xs, y.1)) (simp append_assoc)
+regroup front x (Err f) = refl
+
+pub goes_on : {X : Type 0} (front : List X) (x : X) (now later whole : Result (List X × Sheet) Fault) → now ≡ with_item x later → with_front front now ≡ whole → with_front (front ++ x ∷ []) later ≡ whole
+goes_on front x now later whole step so_far = sym (regroup front x later) ∙ ap (with_front front) (sym step) ∙ so_far
+
+pub stops_at : {X : Type 0} (e : InputStop) (front : List X) (now whole : Result (List X × Sheet) Fault) → Fails e now → with_front front now ≡ whole → Fails e whole
+stops_at stops.Memory front now whole step so_far = tt
+stops_at (stops.Fault f) front now whole step so_far = sym so_far ∙ ap (with_front front) step
+
+pub is_done : {X : Type 0} (front : List X) (s : Sheet) (now whole : Result (List X × Sheet) Fault) → now ≡ Ok ([], s) → with_front front now ≡ whole → whole ≡ Ok (front, s)
+is_done {X} front s now whole step so_far = sym so_far ∙ ap (with_front front) step ∙ ap (λ (xs : List X). Ok (xs, s)) (append-nil front)
+
+-- a fault of a part is a fault of the whole
+pub Fails_bind : {X Y : Type 0} (e : InputStop) (r : Result X Fault) (f : X → Result Y Fault) → Fails e r → Fails e (r >>= f)
+Fails_bind stops.Memory r f h = tt
+Fails_bind (stops.Fault g) r f h = ap (λ v. v >>= f) h
+
+-- ---- numbers
+
+pub numbers_step : (count high n : ℕ) (s rest : Sheet) → token_at (number_in 0 high) s ≡ Ok (n, rest) → read (numbers (suc count) high) s ≡ with_item n (read (numbers count high) rest)
+unfolding numbers
+numbers_step count high n s rest h = rw h (read_part (numbers count high) (λ ns. done (n ∷ ns)) rest)
+
+pub numbers_stop : (e : InputStop) (count high : ℕ) (s : Sheet) → Fails e (token_at (number_in 0 high) s) → Fails e (read (numbers (suc count) high) s)
+unfolding numbers
+numbers_stop e count high s h = Fails_bind e (token_at (number_in 0 high) s) (λ x. read (part (numbers count high) (λ ns. done (x.0 ∷ ns))) x.1) h
+
+pub signeds_step : (count size : ℕ) (n : ℤ) (s rest : Sheet) → token_at (signed_in size) s ≡ Ok (n, rest) → read (signeds (suc count) size) s ≡ with_item n (read (signeds count size) rest)
+unfolding signeds
+signeds_step count size n s rest h = rw h (read_part (signeds count size) (λ ns. done (n ∷ ns)) rest)
+
+pub signeds_stop : (e : InputStop) (count size : ℕ) (s : Sheet) → Fails e (token_at (signed_in size) s) → Fails e (read (signeds (suc count) size) s)
+unfolding signeds
+signeds_stop e count size s h = Fails_bind e (token_at (signed_in size) s) (λ x. read (part (signeds count size) (λ ns. done (x.0 ∷ ns))) x.1) h
+
+-- ---- at most so many items
+
+module _ {X : Type 0} (item : ℕ → Grammar (Option X)) (uses : X → ℕ) (over : Grammar (List X)) where
+
+  pub upto_step : (count spare : ℕ) (x : X) (s rest : Sheet) → read (item spare) s ≡ Ok (Some x, rest) → read (upto item uses over (suc count) spare) s ≡ with_item x (read (upto item uses over count (spare - uses x)) rest)
+  unfolding upto
+  upto_step count spare x s rest h =
+      let more : X → Grammar (List X) = λ x. part (upto item uses over count (spare - uses x)) (λ xs. done (x ∷ xs)) in
+      read_part (item spare) (λ found. if_some found more) s ∙ rw h (read_part (upto item uses over count (spare - uses x)) (λ xs. done (x ∷ xs)) rest)
+
+  pub upto_end : (count spare : ℕ) (s rest : Sheet) → read (item spare) s ≡ Ok (None, rest) → read (upto item uses over (suc count) spare) s ≡ Ok ([], rest)
+  unfolding upto
+  upto_end count spare s rest h =
+      let more : X → Grammar (List X) = λ x. part (upto item uses over count (spare - uses x)) (λ xs. done (x ∷ xs)) in
+      read_part (item spare) (λ found. if_some found more) s ∙ rw h refl
+
+  pub upto_stop : (e : InputStop) (count spare : ℕ) (s : Sheet) → Fails e (read (item spare) s) → Fails e (read (upto item uses over (suc count) spare) s)
+  unfolding upto
+  upto_stop e count spare s h =
+      let more : X → Grammar (List X) = λ x. part (upto item uses over count (spare - uses x)) (λ xs. done (x ∷ xs)) in
+      rw (read_part (item spare) (λ found. if_some found more) s) (Fails_bind e (read (item spare) s) (λ y. read (if_some y.0 more) y.1) h)
+
+  -- ---- the loop: front was found before, now is what is still read
+
+  pub loop_err : (e : InputStop) (front : List X) (count later spare : ℕ) (s : Sheet) (whole : Result (List X × Sheet) Fault) → count ≡ suc later → Fails e (read (item spare) s)
+      → with_front front (read (upto item uses over count spare) s) ≡ whole → Fails e whole
+  loop_err e front count later spare s whole some fault so_far =
+      let fails : Fails e (read (upto item uses over count spare) s) = rw some (upto_stop e later spare s fault) in
+      stops_at e front (read (upto item uses over count spare) s) whole fails so_far
+
+  pub loop_end : (front : List X) (count later spare : ℕ) (s rest : Sheet) (whole : Result (List X × Sheet) Fault) → count ≡ suc later → read (item spare) s ≡ Ok (None, rest)
+      → with_front front (read (upto item uses over count spare) s) ≡ whole → whole ≡ Ok (front, rest)
+  loop_end front count later spare s rest whole some none so_far =
+      let ends : read (upto item uses over count spare) s ≡ Ok ([], rest) = rw some (upto_end later spare s rest none) in
+      is_done front rest (read (upto item uses over count spare) s) whole ends so_far
+
+  pub loop_more : (front : List X) (count later spare left : ℕ) (x : X) (s rest : Sheet) (whole : Result (List X × Sheet) Fault) → count ≡ suc later → spare - uses x ≡ left → read (item spare) s ≡ Ok (Some x, rest)
+      → with_front front (read (upto item uses over count spare) s) ≡ whole → with_front (front ++ x ∷ []) (read (upto item uses over later left) rest) ≡ whole
+  loop_more front count later spare left x s rest whole some uses_it found so_far =
+      let step : read (upto item uses over count spare) s ≡ with_item x (read (upto item uses over later left) rest) = rw (some, ← uses_it) (upto_step later spare x s rest found) in
+      goes_on front x (read (upto item uses over count spare) s) (read (upto item uses over later left) rest) whole step so_far
+
+  pub over_err : (e : InputStop) (front : List X) (count spare : ℕ) (s : Sheet) (whole : Result (List X × Sheet) Fault) → count ≡ 0 → Fails e (read over s)
+      → with_front front (read (upto item uses over count spare) s) ≡ whole → Fails e whole
+  unfolding upto
+  over_err e front count spare s whole none fault so_far =
+      let fails : Fails e (read (upto item uses over count spare) s) = rw none fault in
+      stops_at e front (read (upto item uses over count spare) s) whole fails so_far
+
+  pub over_end : (front : List X) (count spare : ℕ) (s : Sheet) (whole : Result (List X × Sheet) Fault) → count ≡ 0 → read over s ≡ Ok ([], s)
+      → with_front front (read (upto item uses over count spare) s) ≡ whole → whole ≡ Ok (front, s)
+  unfolding upto
+  over_end front count spare s whole none may so_far =
+      let ends : read (upto item uses over count spare) s ≡ Ok ([], s) = rw none may in
+      is_done front s (read (upto item uses over count spare) s) whole ends so_far

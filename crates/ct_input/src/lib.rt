@@ -1,0 +1,20 @@
+//! Instance and session texts: their grammars, their readers, and the first fault of a bad text.
+//!
+//! [`read_instance`] and [`read_sessions`] go once over the tokens of a text. The grammar is a definition of
+//! `specs/`, data that says what may stand next, and each reader's clause says that it gives what the grammar
+//! gives or names the first fault. [`push_fault`] writes a fault as one line.
+#![tactic(auto)]
+
+mod draft;
+mod fault;
+mod instance_text;
+pub mod laws;
+mod lists;
+mod print;
+mod reader;
+mod script;
+mod sessions;
+
+pub use fault::{Fault, InputStop, TextReason};
+pub use print::push_fault;
+pub use script::{Phase, Request, Script};

@@ -1,0 +1,44 @@
+//! Lists of numbers.
+
+ghost use Rattle.std.specs.Prelude.{◌≡◌, ◌<◌, ◌^◌};
+ghost use Rattle.ct_input.specs.Sheet.{Gives};
+ghost use Rattle.ct_input.specs.Grammar.{read, numbers, signeds};
+
+use crate::fault::InputStop;
+use crate::reader::Reader;
+use std::alloc::Global;
+
+/// So many natural numbers up to a limit.
+pub fn numbers(
+    alloc: Global,
+    reader: &mut Reader,
+    count: usize,
+    high: u64,
+) -> Result<Vec<u64>, InputStop>
+    ensures { Gives (λ v. (v.items, reader.new)) result (read (numbers count high) reader.old) }
+{
+    let mut found = Vec::with_capacity(alloc, count)?;
+    for _ in 0..count {
+        let n = reader.number(0, high)?;
+        found.push(n)?;
+    }
+    Ok(found)
+}
+
+/// So many signed numbers up to a size.
+pub fn signeds(
+    alloc: Global,
+    reader: &mut Reader,
+    count: usize,
+    size: u64,
+) -> Result<Vec<i64>, InputStop>
+    requires { size < 2 ^ 63 }
+    ensures { Gives (λ v. (v.items, reader.new)) result (read (signeds count size) reader.old) }
+{
+    let mut found = Vec::with_capacity(alloc, count)?;
+    for _ in 0..count {
+        let n = reader.signed(size)?;
+        found.push(n)?;
+    }
+    Ok(found)
+}

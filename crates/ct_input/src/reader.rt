@@ -1,0 +1,150 @@
+//! The reader of a text, one token ahead.
+
+use crate::fault::{Fault, InputStop, TextReason};
+use ct_text::{NumberFault, Token, Tokens, natural, signed};
+use std::marker::Model;
+
+/// The tokens of a text, of which the next is known.
+#[derive(Drop)]
+pub struct Reader<'a> {
+    ahead: Option<Token<'a>>,
+    tokens: Tokens<'a>,
+}
+
+impl<'a> Model for Reader<'a> {
+    ghost use Rattle.std.specs.Prelude.{◌≡◌, [], MatchOption};
+    ghost use Rattle.ct_input.specs.Sheet.{Sheet};
+    ghost use Rattle.ct_input.specs.Reader.{with_ahead};
+
+    ghost Value = { Sheet };
+
+    ghost view = { λ r. record { tokens = with_ahead r.ahead r.tokens.tokens; end = r.tokens.end } };
+
+    ghost invariant = { λ r. MatchOption r.ahead ((r.tokens.tokens ≡ []) × (r.tokens.place ≡ r.tokens.end)) (λ _. Unit {0}) };
+}
+
+impl<'a> Reader<'a> {
+    ghost use Rattle.std.specs.Prelude.{◌≡◌, ◌<◌, ◌≤◌, ◌^◌, true, IfOk, unsigned_abs, if◌then◌else◌};
+    ghost use Rattle.ct_text.specs.Tokens.{text_of};
+    ghost use Rattle.ct_input.specs.Sheet.{Gives, sheet_of, fault_next};
+    ghost use Rattle.ct_input.specs.Grammar.{is_next, after_next, barred_at, token_at, word_in, number_in, signed_in, nothing_at};
+
+    pub fn new(bytes: &'a [u8]) -> Reader<'a>
+        ensures { result ≡ sheet_of (text_of bytes.now) }
+    {
+        let mut tokens = Tokens::new(bytes);
+        let ahead = tokens.next();
+        Reader { ahead, tokens }
+    }
+
+    fn advance(&mut self)
+        ensures { self.new ≡ after_next self.old }
+    {
+        self.ahead = self.tokens.next();
+    }
+
+    /// The fault at the next token, or at the end.
+    pub fn refuse(&self, reason: TextReason) -> InputStop
+        ensures { result ≡ InputStop.Fault (fault_next reason self.now) }
+    {
+        let (line, column) = match &self.ahead {
+            Some(token) => (token.line, token.column),
+            None => self.tokens.place(),
+        };
+        InputStop::Fault(Fault::Text {
+            line,
+            column,
+            reason,
+        })
+    }
+
+    fn is_next(&self, word: &[u8]) -> bool
+        ensures { result ≡ is_next word.now self.now }
+    {
+        match &self.ahead {
+            Some(token) => token.text == word,
+            None => false,
+        }
+    }
+
+    /// Takes the word if it stands next.
+    pub fn goes(&mut self, word: &[u8]) -> bool
+        ensures found { result ≡ is_next word.now self.old }
+        ensures after { self.new ≡ (if result then after_next self.old else self.old) }
+    {
+        let found = self.is_next(word);
+        if found {
+            self.advance();
+        }
+        found
+    }
+
+    /// The word may not stand next.
+    pub fn barred(&self, word: &[u8]) -> Result<(), InputStop>
+        ensures { Gives (λ _. true) result (barred_at word.now self.now) }
+    {
+        if self.is_next(word) {
+            return Err(self.refuse(TextReason::Limit));
+        }
+        Ok(())
+    }
+
+    pub fn word(&mut self, word: &[u8]) -> Result<(), InputStop>
+        ensures { Gives (λ _. (true, self.new)) result (token_at (word_in word.now) self.old) }
+    {
+        let Some(token) = self.ahead else {
+            return Err(self.refuse(TextReason::End));
+        };
+        if token.text != word {
+            return Err(self.refuse(TextReason::Word));
+        }
+        self.advance();
+        Ok(())
+    }
+
+    pub fn number(&mut self, low: u64, high: u64) -> Result<u64, InputStop>
+        ensures gives { Gives (λ n. (n, self.new)) result (token_at (number_in low high) self.old) }
+        ensures within { IfOk result (λ n. (low ≤ n) × (n ≤ high)) }
+    {
+        let Some(token) = self.ahead else {
+            return Err(self.refuse(TextReason::End));
+        };
+        match natural(token.text, high) {
+            Err(NumberFault::Spelling) => Err(self.refuse(TextReason::Number)),
+            Err(NumberFault::Over) => Err(self.refuse(TextReason::Limit)),
+            Ok(n) if n < low => Err(self.refuse(TextReason::Limit)),
+            Ok(n) => {
+                self.advance();
+                Ok(n)
+            }
+        }
+    }
+
+    pub fn signed(&mut self, size: u64) -> Result<i64, InputStop>
+        requires { size < 2 ^ 63 }
+        ensures gives { Gives (λ n. (n, self.new)) result (token_at (signed_in size) self.old) }
+        ensures within { IfOk result (λ n. unsigned_abs n ≤ size) }
+    {
+        let Some(token) = self.ahead else {
+            return Err(self.refuse(TextReason::End));
+        };
+        match signed(token.text, size) {
+            Err(NumberFault::Spelling) => Err(self.refuse(TextReason::Number)),
+            Err(NumberFault::Over) => Err(self.refuse(TextReason::Limit)),
+            Ok(n) => {
+                self.advance();
+                Ok(n)
+            }
+        }
+    }
+
+    /// Nothing follows.
+    pub fn nothing(&self) -> Result<(), InputStop>
+        ensures { Gives (λ _. true) result (nothing_at self.now) }
+    {
+        match self.ahead {
+            Some(_) => Err(self.refuse(TextReason::Extra)),
+            None => Ok(()),
+        }
+    }
+}

@@ -1,5 +1,5 @@
 -- The points of one degree, and the least of them.
-use Rattle.std.specs.Prelude.{ℕ, ◌≡◌, List, [], ◌∷◌, filter, map}
+use Rattle.std.specs.Prelude.{ℕ, ◌≡◌, Bool, List, [], ◌∷◌, filter, map}
 use Rattle.std.specs.Ordering.{is_lt}
 use Rattle.std.specs.List.{flat_map, best_of}
 use Rattle.ct_vectors.specs.Vectors.{total, subtract, scale, divides, up_to}
@@ -23,10 +23,14 @@ pub record IsInFiber (i : Problem) (b p : List ℕ) : Type 0 where
 abbrev pub IsBelow : Problem → List ℕ → List ℕ → Type 0
 IsBelow i p q = IsLowerBy (column_count i) i.cost_rows p q
 
+-- the same as a test
+abbrev pub is_lower : Problem → List ℕ → List ℕ → Bool
+is_lower i p q = is_lt (refined_order (column_count i) i.cost_rows p q)
+
 -- the least point of the fiber: the lower one of each two, from (0, b) on
 unfoldable pub least_of : Problem → List ℕ → List ℕ
 least_of i b =
-    best_of (λ p q. is_lt (refined_order (column_count i) i.cost_rows p q)) (start_of i b) (fiber_of i.columns b)
+    best_of (is_lower i) (start_of i b) (fiber_of i.columns b)
 
 -- what it means to be least: p is in the fiber, and below every other point of it
 pub record IsLeast (i : Problem) (b p : List ℕ) : Type 0 where

@@ -1,12 +1,11 @@
 -- Improvable points, test heads, and the test list of a grade.
 use Rattle.std.specs.Prelude.{ℕ, ◌≤◌, ◌<◌, ◌≡◌, ◌⊎◌, Bool, not, ◌&&◌, nat_eq, List, [], ◌∷◌, filter, map, All, AllPairs, Contains, zero, suc}
 use Rattle.std.specs.declared.cmp.Ordering.TheVariants.{Less}
-use Rattle.std.specs.Ordering.{is_lt}
 use Rattle.std.specs.List.{flat_map, list_any, list_all}
 use Rattle.ct_vectors.specs.Vectors.{add, unit, up_to}
-use Rattle.ct_order.specs.Order.{first_difference, refined_order}
-use Rattle.ct_instance.specs.Instance.{Problem, column_count, width_of, degree_of, grade_of, IsPoint}
-use Rattle.ct_instance.specs.Fiber.{fiber_of, least_of, IsInFiber, IsBelow, IsLeast}
+use Rattle.ct_order.specs.Order.{first_difference}
+use Rattle.ct_instance.specs.Instance.{Problem, width_of, degree_of, grade_of, IsPoint}
+use Rattle.ct_instance.specs.Fiber.{fiber_of, least_of, is_lower, IsInFiber, IsBelow, IsLeast}
 
 -- a move: take the head away as often as it fits, and add the tail as often
 pub record Binomial : Type 0 where
@@ -22,7 +21,7 @@ pub record IsImprovable (i : Problem) (p : List ℕ) : Type 0 where
 -- the same as a test
 abbrev pub is_improvable : Problem → List ℕ → Bool
 is_improvable i p =
-    list_any (λ q. is_lt (refined_order (column_count i) i.cost_rows q p)) (fiber_of i.columns (degree_of i.columns p))
+    list_any (λ q. is_lower i q p) (fiber_of i.columns (degree_of i.columns p))
 
 -- a minimal improvable point: with 1 taken from any coordinate it isn't improvable
 pub record IsTestHead (i : Problem) (p : List ℕ) : Type 0 where

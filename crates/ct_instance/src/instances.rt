@@ -115,6 +115,7 @@ impl Instance {
     /// The costs of the columns.
     pub fn costs(&self) -> &Costs
         ensures costs { self.now.cost_rows ≡ result.now ∷ [] }
+        ensures count { length result.now ≡ column_count self.now }
         ensures instance { IsInstance self.now }
     {
         &self.costs

@@ -1,16 +1,17 @@
 -- What an instance refuses of numbers that were read.
-use Rattle.std.proofs.Common.{◌≡◌, ℕ, ◌+◌, Bool, true, false, cond, ◌&&◌, leb, ltb, ◌/◌, ◌%◌, ◌≤◌, List, length, map, Option, Some, None, Ok, Err, ℤ, nat_abs, refl, sym, ap, ◌∙◌}
+use Rattle.std.proofs.Common.{◌≡◌, ◌≢◌, ℕ, ◌+◌, Bool, true, false, cond, ◌&&◌, leb, ltb, ◌/◌, ◌%◌, ◌≤◌, List, length, map, Option, Some, None, Ok, Err, nat_abs, refl}
 use Rattle.std.specs.List.{position}
 use Rattle.std.proofs.lemmas.Bool.{le-ltb}
 use Rattle.ct_vectors.specs.Vectors.{total}
 use Rattle.ct_text.specs.Tokens.{text_of}
 use Rattle.std.specs.Option.{option_or, option_map}
 use Rattle.ct_instance.specs.declared.refusals.BadInstance.{BadInstance}
-use Rattle.ct_instance.specs.declared.refusals.BadInstance.TheVariants.{Rows, Columns, Entry, ZeroColumn, Cost}
-use Rattle.ct_instance.specs.Made.{columns_of, refused_rows, refused_columns, refused_entry, refused_sum, refused_cost, refusal_of}
+use Rattle.ct_instance.specs.declared.refusals.BadInstance.TheVariants.{Rows, Columns, Entry, ZeroColumn, Cost, Memory}
+use Rattle.ct_instance.specs.Made.{columns_of, problem_of, refused_rows, refused_columns, refused_entry, refused_sum, refused_cost, refusal_of}
 use Rattle.ct_input.specs.declared.draft.Draft.{Draft}
 use Rattle.ct_input.specs.declared.fault.TextReason.TheVariants as reasons
-use Rattle.ct_input.specs.Sheet.{Sheet, sheet_of, fault_next}
+use Rattle.ct_input.specs.Sheet.{Sheet, Fails, sheet_of, fault_next}
+use Rattle.ct_input.specs.Refusals.{stop_of}
 use Rattle.ct_input.specs.Grammar.{read}
 use Rattle.ct_input.specs.InstanceText.{instance_text}
 use Rattle.ct_input.specs.Files.{zero_column_of, entry_sheet, made_of, instance_file}
@@ -91,3 +92,25 @@ pub zero_file : (bytes : List ℕ) (d : Draft) (rest : Sheet) (col : ℕ) → le
 zero_file bytes d rest col small reads refused =
     let z = is_zero_column d col refused in
     at_zero_column bytes d rest col z.0 small reads z.1 z.2
+
+-- what is refused is a fault of the file, or memory
+pub refused_file : (bytes : List ℕ) (d : Draft) (rest : Sheet) (bad : BadInstance) → length bytes ≤ 1048576 → read instance_text (sheet_of (text_of bytes)) ≡ Ok (d, rest)
+    → (bad ≢ Memory → refusal_of d.rows d.columns d.entries d.costs ≡ Some bad) → Fails (stop_of (sheet_of (text_of bytes)) bad) (instance_file bytes)
+refused_file bytes d rest (ZeroColumn col) small reads refused = zero_file bytes d rest col small reads (refused (λ e. cc))
+refused_file bytes d rest Rows small reads refused = tt
+refused_file bytes d rest Columns small reads refused = tt
+refused_file bytes d rest (Entry row col) small reads refused = tt
+refused_file bytes d rest (Cost col) small reads refused = tt
+refused_file bytes d rest Memory small reads refused = tt
+
+at_accepted : (bytes : List ℕ) (d : Draft) (rest : Sheet) → length bytes ≤ 1048576 → read instance_text (sheet_of (text_of bytes)) ≡ Ok (d, rest)
+    → zero_column_of d ≡ None → instance_file bytes ≡ Ok (problem_of d.rows d.columns d.entries d.costs)
+unfolding instance_file made_of
+at_accepted bytes d rest small reads zero =
+    let short : ltb 1048576 (length bytes) ≡ false = le-ltb _ _ small in
+    rw (short, reads, zero) refl
+
+-- what is accepted is the instance of the file
+pub accepted_file : (bytes : List ℕ) (d : Draft) (rest : Sheet) → length bytes ≤ 1048576 → read instance_text (sheet_of (text_of bytes)) ≡ Ok (d, rest)
+    → refusal_of d.rows d.columns d.entries d.costs ≡ None → instance_file bytes ≡ Ok (problem_of d.rows d.columns d.entries d.costs)
+accepted_file bytes d rest small reads accepted = at_accepted bytes d rest small reads (no_zero_column d accepted)

@@ -2,8 +2,9 @@
 
 ghost use Rattle.std.specs.Prelude.{◌≡◌, IfOk};
 ghost use Rattle.ct_text.specs.Tokens.{text_of};
-ghost use Rattle.ct_input.specs.Sheet.{Gives, sheet_of, fault_next};
-ghost use Rattle.ct_input.specs.Files.{HasCounts, entry_sheet, instance_file};
+ghost use Rattle.ct_input.specs.Sheet.{Gives, sheet_of};
+ghost use Rattle.ct_input.specs.Files.{HasCounts, instance_file};
+ghost use Rattle.ct_input.specs.Refusals.{stop_of};
 ghost use Rattle.ct_input.specs.Grammar.{read};
 ghost use Rattle.ct_input.specs.InstanceText.{instance_text};
 
@@ -42,14 +43,20 @@ fn draft_of(alloc: Global, reader: &mut Reader) -> Result<Draft, InputStop>
     })
 }
 
-// The fault of a zero column, at its entry in row 1. It goes over the tokens up to there once more.
-fn zero_column(bytes: &[u8], column: u32) -> InputStop
-    ensures { result ≡ InputStop.Fault (fault_next TextReason.ZeroColumn (entry_sheet (sheet_of (text_of bytes.now)) column)) }
+// Why the numbers of the text make no instance: its first zero column, whose entry in row 1 has the fault. It goes over
+// the tokens up to there once more. All else that an instance refuses is out of what the grammar lets through.
+fn refused(bytes: &[u8], bad: BadInstance) -> InputStop
+    ensures { result ≡ stop_of (sheet_of (text_of bytes.now)) bad }
 {
-    let mut reader = Reader::new(bytes);
-    reader.skip(6);
-    reader.skip(column);
-    reader.refuse(TextReason::ZeroColumn)
+    match bad {
+        BadInstance::ZeroColumn { col } => {
+            let mut reader = Reader::new(bytes);
+            reader.skip(6);
+            reader.skip(col);
+            reader.refuse(TextReason::ZeroColumn)
+        }
+        _ => InputStop::Memory,
+    }
 }
 
 /// The instance of a file of at most 1,048,576 bytes, in one pass over its bytes. The memory that it takes is that of
@@ -72,7 +79,6 @@ pub fn read_instance(alloc: Global, bytes: &[u8]) -> Result<Instance, InputStop>
     );
     match made {
         Ok(instance) => Ok(instance),
-        Err(BadInstance::ZeroColumn { col }) => Err(zero_column(bytes, col)),
-        Err(_) => Err(InputStop::Memory),
+        Err(bad) => Err(refused(bytes, bad)),
     }
 }

@@ -1,6 +1,5 @@
-use Rattle.std.proofs.Common.{◌≡◌, ◌+◌, drop, ℕ, refl, sym, ap, ◌∙◌, arith}
+use Rattle.std.proofs.Common.{refl, ap, ◌∙◌}
 use Rattle.std.proofs.lemmas.List.{drop-drop}
-use Rattle.ct_text.specs.Tokens.{Lexeme}
 use Rattle.ct_input.specs.Grammar.{after_next}
 use Rattle.ct_input.proofs.reader.Reader.skip.Goals as goal
 

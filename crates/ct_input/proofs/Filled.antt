@@ -1,8 +1,7 @@
 -- The places of the two texts can each be filled.
-use Rattle.std.proofs.Common.{◌≡◌, ◌≢◌, ℕ, zero, suc, ◌-◌, ◌*◌, ◌≤◌, Bool, true, false, List, [], ◌∷◌, length, Option, Some, None, ℤ, refl, sym, ap, ◌∙◌, arith, lit≤}
+use Rattle.std.proofs.Common.{◌≡◌, ℕ, zero, suc, ◌-◌, ◌*◌, ◌≤◌, Bool, true, false, List, [], ◌∷◌, length, Option, Some, None, ℤ, refl, ap, ◌∙◌, arith, lit≤}
 use Rattle.std.specs.Prelude.{codes}
 use Rattle.std.specs.Str.{bytes_eq}
-use Rattle.ct_input.specs.declared.script.Request.{Request}
 use Rattle.ct_input.specs.declared.script.Request.TheVariants.{Ask, Solve}
 use Rattle.ct_input.specs.declared.script.Phase.{Phase}
 use Rattle.ct_input.specs.declared.script.Script.{Script}
@@ -10,8 +9,7 @@ use Rattle.ct_input.specs.declared.draft.Draft.{Draft}
 use Rattle.ct_input.specs.Grammar.{Grammar, done, nothing, word, number, signed, fork, barred, part, numbers, signeds, if_some, upto}
 use Rattle.ct_input.specs.InstanceText.{instance_text}
 use Rattle.ct_input.specs.SessionText.{request, no_request, requests, session, no_session, sessions, phase, no_phase, phases, request_count, session_text}
-use Rattle.ct_input.specs.FirstFault.{IsSpelling}
-use Rattle.ct_input.proofs.FirstFaults.{spelled, Fills, opens}
+use Rattle.ct_input.proofs.FirstFaults.{Fills, opens}
 
 false_is_not_true : false ≡ true → ⊥
 false_is_not_true e = cc
@@ -56,7 +54,6 @@ fills_signeds after (suc count) size h = (h, λ n. fills_part false after after 
 
 module _ {X : Type 0} (after : List ℕ) (item : ℕ → Grammar (Option X)) (uses : X → ℕ) (over : Grammar (List X)) (fills_item : (spare : ℕ) → Fills false after (item spare)) (fills_over : Fills false after over)
     (item_opens : (spare : ℕ) → opens after (item spare) ≡ after) (over_opens : opens after over ≡ after) where
-
   some_opens : (found : Option X) (next : X → Grammar (List X)) → ((x : X) → opens after (next x) ≡ after) → opens after (if_some found next) ≡ after
   unfolding opens
   some_opens None next h = refl
@@ -76,9 +73,10 @@ module _ {X : Type 0} (after : List ℕ) (item : ℕ → Grammar (Option X)) (us
       let last_fills : (x : X) (xs : List X) → Fills false after (last x xs) = λ x xs. unfold Fills in tt in
       let last_opens : (x : X) (xs : List X) → opens after (last x xs) ≡ after = λ x xs. unfold opens in refl in
       let more_fills : (x : X) → Fills false after (more x) = λ x. fills_part false after after (upto item uses over count (spare - uses x)) (last x) (upto_fills count (spare - uses x)).0 (last_fills x) (last_opens x) in
-      let more_opens : (x : X) → opens after (more x) ≡ after = λ x. opens_part after after (upto item uses over count (spare - uses x)) (last x) (upto_fills count (spare - uses x)).0 (last_opens x) ∙ (upto_fills count (spare - uses x)).1 in
-      (fills_part false after after (item spare) (λ found. if_some found more) (fills_item spare) (λ found. some_fills found more more_fills) (λ found. some_opens found more more_opens),
-       opens_part after after (item spare) (λ found. if_some found more) (fills_item spare) (λ found. some_opens found more more_opens) ∙ item_opens spare)
+      let more_opens : (x : X) → opens after (more x) ≡ after = λ x. opens_part after after (upto item uses over count (spare - uses x)) (last x) (upto_fills count (spare - uses x)).0 (last_opens x) ∙ (upto_fills count (spare - uses x)).1 in (
+        fills_part false after after (item spare) (λ found. if_some found more) (fills_item spare) (λ found. some_fills found more more_fills) (λ found. some_opens found more more_opens),
+        opens_part after after (item spare) (λ found. if_some found more) (fills_item spare) (λ found. some_opens found more more_opens) ∙ item_opens spare,
+      )
 
 -- ---- the session text
 
@@ -90,10 +88,11 @@ right = lit≤ tt
 
 fills_request : (m : ℕ) → Fills false end_word (request m)
 unfolding request Fills opens
-fills_request m =
-    (fills_part false end_word end_word (numbers m 1000000000000) (λ b. done (Some (Ask b))) (fills_numbers end_word m 1000000000000 right) (λ b. tt) (λ b. refl),
-     (fills_part false end_word end_word (numbers m 1000000000000) (λ b. done (Some (Solve b))) (fills_numbers end_word m 1000000000000 right) (λ b. tt) (λ b. refl), tt, refl),
-     refl)
+fills_request m = (
+  fills_part false end_word end_word (numbers m 1000000000000) (λ b. done (Some (Ask b))) (fills_numbers end_word m 1000000000000 right) (λ b. tt) (λ b. refl),
+  (fills_part false end_word end_word (numbers m 1000000000000) (λ b. done (Some (Solve b))) (fills_numbers end_word m 1000000000000 right) (λ b. tt) (λ b. refl), tt, refl),
+  refl,
+)
 
 opens_request : (m : ℕ) → opens end_word (request m) ≡ end_word
 unfolding request opens
@@ -152,9 +151,13 @@ fills_phases m spare = upto_fills end_word (phase m) (λ p. request_count p.sess
 pub fills_session_text : (m : ℕ) → Fills true [] (session_text m)
 unfolding session_text Fills opens
 fills_session_text m =
-    let closing : List Phase → Grammar Script = λ ps. word (codes "end") (nothing (done (record { phases = ps }))) in
-    (record { some = λ e. cc; plain = refl }, (record { some = λ e. cc; plain = refl },
-      fills_part true [] end_word (phases m 100000) closing (fills_phases m 100000).0 (λ ps. (record { some = λ e. cc; plain = refl }, (refl, (record { phases = ps }, refl)))) (λ ps. refl)))
+    let closing : List Phase → Grammar Script = λ ps. word (codes "end") (nothing (done (record { phases = ps }))) in (
+      record { some = λ e. cc; plain = refl },
+      (
+        record { some = λ e. cc; plain = refl },
+        fills_part true [] end_word (phases m 100000) closing (fills_phases m 100000).0 (λ ps. (record { some = λ e. cc; plain = refl }, (refl, (record { phases = ps }, refl)))) (λ ps. refl),
+      ),
+    )
 
 -- ---- the instance text
 
@@ -163,10 +166,33 @@ unfolding instance_text Fills opens
 fills_instance_text =
     let last : ℕ → ℕ → List ℕ → List ℤ → Draft = λ m n entries costs. record { rows = m; columns = n; entries = entries; costs = costs } in
     let closing : ℕ → ℕ → List ℕ → List ℤ → Grammar Draft = λ m n entries costs. word (codes "end") (nothing (done (last m n entries costs))) in
-    let costly : ℕ → ℕ → List ℕ → Grammar Draft = λ m n entries. word (codes "cost") (part (signeds n 1000000000000) (closing m n entries)) in
-    (record { some = λ e. cc; plain = refl }, (record { some = λ e. cc; plain = refl }, (record { some = λ e. cc; plain = refl }, (omega arith, omega arith, λ m.
-     (record { some = λ e. cc; plain = refl }, (omega arith, omega arith, λ n.
-      (record { some = λ e. cc; plain = refl }, fills_part true [] (codes "cost") (numbers (m * n) 1000000) (costly m n) (fills_numbers (codes "cost") (m * n) 1000000 (lit≤ tt))
-        (λ entries. (record { some = λ e. cc; plain = refl }, fills_part true [] (codes "end") (signeds n 1000000000000) (closing m n entries) (fills_signeds (codes "end") n 1000000000000 right)
-          (λ costs. (record { some = λ e. cc; plain = refl }, (refl, (last m n entries costs, refl)))) (λ costs. refl)))
-        (λ entries. refl))))))))
+    let costly : ℕ → ℕ → List ℕ → Grammar Draft = λ m n entries. word (codes "cost") (part (signeds n 1000000000000) (closing m n entries)) in (
+      record { some = λ e. cc; plain = refl },
+      (
+        record { some = λ e. cc; plain = refl },
+        (
+          record { some = λ e. cc; plain = refl },
+          (
+            omega arith,
+            omega arith,
+            λ m. (
+              record { some = λ e. cc; plain = refl },
+              (
+                omega arith,
+                omega arith,
+                λ n. (
+                  record { some = λ e. cc; plain = refl },
+                  fills_part true [] (codes "cost") (numbers (m * n) 1000000) (costly m n) (fills_numbers (codes "cost") (m * n) 1000000 (lit≤ tt))
+                      (λ entries. (
+                        record { some = λ e. cc; plain = refl },
+                        fills_part true [] (codes "end") (signeds n 1000000000000) (closing m n entries) (fills_signeds (codes "end") n 1000000000000 right)
+                            (λ costs. (record { some = λ e. cc; plain = refl }, (refl, (last m n entries costs, refl)))) (λ costs. refl),
+                      ))
+                      (λ entries. refl),
+                ),
+              ),
+            ),
+          ),
+        ),
+      ),
+    )

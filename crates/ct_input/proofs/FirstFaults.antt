@@ -1,12 +1,12 @@
 -- The first fault of a text whose places can each be filled.
-use Rattle.std.proofs.Common.{◌≡◌, ◌≢◌, ℕ, zero, suc, ◌+◌, ◌-◌, ◌*◌, ◌≤◌, ◌<◌, Bool, true, false, cond, List, [], ◌∷◌, ◌++◌, length, Option, Some, None, Result, Ok, Err, ℤ, pos, refl, sym, ap, subst, ◌∙◌, inl, inr, arith, leb}
-use Rattle.std.specs.Prelude.{IsOk, is_ok, IsTrue}
-use Rattle.std.specs.List.{list_all, AllByRecursion}
+use Rattle.std.proofs.Common.{◌≡◌, ℕ, ◌≤◌, Bool, true, false, cond, List, [], ◌∷◌, ◌++◌, Result, Ok, Err, ℤ, pos, refl, sym, ap, subst, ◌∙◌, inl, inr, leb}
+use Rattle.std.specs.Prelude.{is_ok, IsTrue}
+use Rattle.std.specs.List.{AllByRecursion}
 use Rattle.std.specs.Str.{bytes_eq}
 use Rattle.std.proofs.lemmas.Slice.Eq.{bytes_eq-Decides}
 use Rattle.std.proofs.lemmas.Bool.{cases_Bool, le-leb}
 use Rattle.ct_text.specs.declared.place.Place.{Place}
-use Rattle.ct_text.specs.Tokens.{Lexeme, is_plain}
+use Rattle.ct_text.specs.Tokens.{Lexeme}
 use Rattle.ct_text.specs.Numbers.{natural_of, signed_of}
 use Rattle.ct_text.specs.declared.number.NumberFault.TheVariants.{Spelling, Over}
 use Rattle.ct_text.specs.declared.number.NumberFault.{NumberFault}
@@ -14,7 +14,7 @@ use Rattle.ct_input.specs.declared.fault.Fault.{Fault}
 use Rattle.ct_input.specs.declared.fault.TextReason.{TextReason}
 use Rattle.ct_input.specs.declared.fault.TextReason.TheVariants.{End, Word, Number, Limit, Extra}
 use Rattle.ct_input.specs.Sheet.{Sheet, ◌>>=◌, fault_next, fault_at}
-use Rattle.ct_input.specs.Grammar.{Grammar, done, nothing, word, number, signed, fork, barred, read, token_at, word_in, number_in, number_fault, signed_in, nothing_at, barred_at, is_next, after_next}
+use Rattle.ct_input.specs.Grammar.{Grammar, done, nothing, word, number, signed, fork, barred, read, token_at, word_in, number_in, number_fault, signed_in, is_next}
 use Rattle.ct_input.specs.FirstFault.{IsSpelling, Accepts, IsFirstFault}
 
 abbrev sheet : List Lexeme → Place → Sheet
@@ -127,8 +127,17 @@ Faults {A} g = (tokens : List Lexeme) (end : Place) (fault : Fault) → read g (
 here : {A : Type 0} (filling : Bool) (after : List ℕ) (g : Grammar A) → Fills filling after g → (tokens : List Lexeme) (end : Place) (fault : Fault) (reason : TextReason) → fault ≡ fault_next reason (sheet tokens end)
     → ((token : Lexeme) (others later : List Lexeme) (other : Place) → tokens ≡ token ∷ others → is_ok (read g (sheet (token ∷ later) other)) ≡ false) → First g tokens end fault
 here filling after g fills tokens end fault reason place refused = record {
-  before = []; rest = tokens; reason = reason; whole = refl; place = place; more = fill g; are_spellings = fill_spelled filling after g fills;
-  fills = λ _. refl; goes_on = filled filling after g fills; refused = refused }
+  before = [];
+  rest = tokens;
+  reason = reason;
+  whole = refl;
+  place = place;
+  more = fill g;
+  are_spellings = fill_spelled filling after g fills;
+  fills = λ _. refl;
+  goes_on = filled filling after g fills;
+  refused = refused;
+}
 
 head_is : (a b : Lexeme) (xs ys : List Lexeme) → a ∷ xs ≡ b ∷ ys → a ≡ b
 head_is a b xs ys e = cc
@@ -146,7 +155,6 @@ no_ok x f e = cc
 module _ {A X : Type 0} (filling : Bool) (after : List ℕ) (g : Grammar A) (fills : Fills filling after g) (reading : Lexeme → Result X Fault) (next : X → Grammar A)
     (reads : (s : Sheet) → read g s ≡ (token_at reading s >>= λ x. read (next x.0) x.1))
     (faults : (token : Lexeme) (f : Fault) → reading token ≡ Err f → (reason : TextReason) × (f ≡ fault_at token.place reason)) (others_first : (x : X) → Faults (next x)) where
-
   refuses : (token : Lexeme) (later : List Lexeme) (other : Place) (f : Fault) → reading token ≡ Err f → is_ok (read g (sheet (token ∷ later) other)) ≡ false
   refuses token later other f bad = rw (reads (sheet (token ∷ later) other), bad) refl
 
@@ -157,15 +165,22 @@ module _ {A X : Type 0} (filling : Bool) (after : List ℕ) (g : Grammar A) (fil
   first_of_token token tokens end fault bad (Ok x) good =
       let f = others_first x tokens end fault (sym (goes token tokens end x good) ∙ bad) in
       record {
-        before = token ∷ f.before; rest = f.rest; reason = f.reason; whole = ap (λ (ts : List Lexeme). token ∷ ts) f.whole; place = f.place; more = f.more; are_spellings = f.are_spellings;
+        before = token ∷ f.before;
+        rest = f.rest;
+        reason = f.reason;
+        whole = ap (λ (ts : List Lexeme). token ∷ ts) f.whole;
+        place = f.place;
+        more = f.more;
+        are_spellings = f.are_spellings;
         fills = λ e. absurd cc;
         goes_on = λ other. ap is_ok (goes token (f.before ++ f.more) other x good) ∙ f.goes_on other;
-        refused = λ t others later other e. ap is_ok (goes token (f.before ++ t ∷ later) other x good) ∙ f.refused t others later other e }
+        refused = λ t others later other e. ap is_ok (goes token (f.before ++ t ∷ later) other x good) ∙ f.refused t others later other e;
+      }
   first_of_token token tokens end fault bad (Err f) wrong =
       let p = faults token f wrong in
       let same : fault ≡ f = err_is fault f (read g (sheet (token ∷ tokens) end)) bad (reads (sheet (token ∷ tokens) end) ∙ rw wrong refl) in
       here filling after g fills (token ∷ tokens) end fault p.0 (same ∙ p.1)
-        (λ t others later other e. subst (λ (u : Lexeme). is_ok (read g (sheet (u ∷ later) other)) ≡ false) (head_is token t tokens others e) (refuses token later other f wrong))
+      (λ t others later other e. subst (λ (u : Lexeme). is_ok (read g (sheet (u ∷ later) other)) ≡ false) (head_is token t tokens others e) (refuses token later other f wrong))
 
   first_of_reading : Faults g
   first_of_reading [] end fault bad =
@@ -191,6 +206,7 @@ number_faults low high token f bad = go (natural_of token.text high) bad
     small : (n : ℕ) (b : Bool) → cond b (Ok n) (Err (fault_at token.place Limit)) ≡ Err f → (reason : TextReason) × (f ≡ fault_at token.place reason)
     small n true e = absurd (no_ok n f e)
     small n false e = (Limit, cc)
+
     go : (r : Result ℕ NumberFault) → (number_fault token.place r >>= λ n. cond (leb low n) (Ok n) (Err (fault_at token.place Limit))) ≡ Err f → (reason : TextReason) × (f ≡ fault_at token.place reason)
     go (Ok n) e = small n (leb low n) e
     go (Err Spelling) e = (Number, cc)
@@ -199,37 +215,60 @@ number_faults low high token f bad = go (natural_of token.text high) bad
 -- Where w doesn't stand next, a grammar that only looks for it has the fault of what it goes on with.
 module _ {A : Type 0} (filling : Bool) (after : List ℕ) (g next : Grammar A) (fills : Fills filling after g) (w : List ℕ) (same_fill : fill next ≡ fill g)
     (reads : (s : Sheet) → is_next w s ≡ false → read g s ≡ read next s) (next_first : Faults next) where
-
   passes : (token : Lexeme) (tokens later : List Lexeme) (end other : Place) → is_next w (sheet (token ∷ tokens) end) ≡ false → read g (sheet (token ∷ later) other) ≡ read next (sheet (token ∷ later) other)
   passes token tokens later end other absent = reads (sheet (token ∷ later) other) absent
 
   first_past : (tokens : List Lexeme) (end : Place) (fault : Fault) → read g (sheet tokens end) ≡ Err fault → is_next w (sheet tokens end) ≡ false → (before rest : List Lexeme) → tokens ≡ before ++ rest
       → (f : First next tokens end fault) → f.before ≡ before → f.rest ≡ rest → First g tokens end fault
   first_past tokens end fault bad absent [] [] whole f none same = record {
-    before = []; rest = []; reason = f.reason; whole = whole; place = f.place ∙ ap (λ (ts : List Lexeme). fault_next f.reason (sheet ts end)) same; more = fill g; are_spellings = fill_spelled filling after g fills;
-    fills = λ _. refl; goes_on = filled filling after g fills; refused = λ t others later other e. absurd cc }
+    before = [];
+    rest = [];
+    reason = f.reason;
+    whole = whole;
+    place = f.place ∙ ap (λ (ts : List Lexeme). fault_next f.reason (sheet ts end)) same;
+    more = fill g;
+    are_spellings = fill_spelled filling after g fills;
+    fills = λ _. refl;
+    goes_on = filled filling after g fills;
+    refused = λ t others later other e. absurd cc;
+  }
   first_past tokens end fault bad absent [] (token ∷ rest) whole f none same = record {
-    before = []; rest = token ∷ rest; reason = f.reason; whole = whole; place = f.place ∙ ap (λ (ts : List Lexeme). fault_next f.reason (sheet ts end)) same; more = fill g; are_spellings = fill_spelled filling after g fills;
-    fills = λ _. refl; goes_on = filled filling after g fills;
+    before = [];
+    rest = token ∷ rest;
+    reason = f.reason;
+    whole = whole;
+    place = f.place ∙ ap (λ (ts : List Lexeme). fault_next f.reason (sheet ts end)) same;
+    more = fill g;
+    are_spellings = fill_spelled filling after g fills;
+    fills = λ _. refl;
+    goes_on = filled filling after g fills;
     refused = λ t others later other e.
-      let first : is_next w (sheet (token ∷ rest) end) ≡ false = subst (λ (ts : List Lexeme). is_next w (sheet ts end) ≡ false) whole absent in
-      let t-is : token ≡ t = head_is token t rest others e in
-      let past : read g (sheet (t ∷ later) other) ≡ read next (sheet (t ∷ later) other) = subst (λ (u : Lexeme). read g (sheet (u ∷ later) other) ≡ read next (sheet (u ∷ later) other)) t-is (passes token rest later end other first) in
-      let no : is_ok (read next (sheet (f.before ++ t ∷ later) other)) ≡ false = f.refused t others later other (same ∙ e) in
-      ap is_ok past ∙ subst (λ (ts : List Lexeme). is_ok (read next (sheet (ts ++ t ∷ later) other)) ≡ false) none no }
+        let first : is_next w (sheet (token ∷ rest) end) ≡ false = subst (λ (ts : List Lexeme). is_next w (sheet ts end) ≡ false) whole absent in
+        let t-is : token ≡ t = head_is token t rest others e in
+        let past : read g (sheet (t ∷ later) other) ≡ read next (sheet (t ∷ later) other) = subst (λ (u : Lexeme). read g (sheet (u ∷ later) other) ≡ read next (sheet (u ∷ later) other)) t-is (passes token rest later end other first) in
+        let no : is_ok (read next (sheet (f.before ++ t ∷ later) other)) ≡ false = f.refused t others later other (same ∙ e) in
+        ap is_ok past ∙ subst (λ (ts : List Lexeme). is_ok (read next (sheet (ts ++ t ∷ later) other)) ≡ false) none no;
+  }
   first_past tokens end fault bad absent (token ∷ before) rest whole f some same =
-    let first : is_next w (sheet (token ∷ (before ++ rest)) end) ≡ false = subst (λ (ts : List Lexeme). is_next w (sheet ts end) ≡ false) whole absent in
-    record {
-      before = token ∷ before; rest = rest; reason = f.reason; whole = whole; place = f.place ∙ ap (λ (ts : List Lexeme). fault_next f.reason (sheet ts end)) same; more = f.more; are_spellings = f.are_spellings;
-      fills = λ e. absurd cc;
-      goes_on = λ other. ap is_ok (passes token (before ++ rest) (before ++ f.more) end other first) ∙ subst (λ (ts : List Lexeme). is_ok (read next (sheet (ts ++ f.more) other)) ≡ true) some (f.goes_on other);
-      refused = λ t others later other e.
-        ap is_ok (passes token (before ++ rest) (before ++ t ∷ later) end other first) ∙ subst (λ (ts : List Lexeme). is_ok (read next (sheet (ts ++ t ∷ later) other)) ≡ false) some (f.refused t others later other (same ∙ e)) }
+      let first : is_next w (sheet (token ∷ (before ++ rest)) end) ≡ false = subst (λ (ts : List Lexeme). is_next w (sheet ts end) ≡ false) whole absent in
+      record {
+        before = token ∷ before;
+        rest = rest;
+        reason = f.reason;
+        whole = whole;
+        place = f.place ∙ ap (λ (ts : List Lexeme). fault_next f.reason (sheet ts end)) same;
+        more = f.more;
+        are_spellings = f.are_spellings;
+        fills = λ e. absurd cc;
+        goes_on = λ other. ap is_ok (passes token (before ++ rest) (before ++ f.more) end other first) ∙ subst (λ (ts : List Lexeme). is_ok (read next (sheet (ts ++ f.more) other)) ≡ true) some (f.goes_on other);
+        refused = λ t others later other e.
+            ap is_ok (passes token (before ++ rest) (before ++ t ∷ later) end other first) ∙ subst (λ (ts : List Lexeme). is_ok (read next (sheet (ts ++ t ∷ later) other)) ≡ false) some (f.refused t others later other (same ∙ e));
+      }
 
   first_of_past : (tokens : List Lexeme) (end : Place) (fault : Fault) → read g (sheet tokens end) ≡ Err fault → is_next w (sheet tokens end) ≡ false → First g tokens end fault
   first_of_past tokens end fault bad absent =
-    let f = next_first tokens end fault (sym (reads (sheet tokens end) absent) ∙ bad) in
-    first_past tokens end fault bad absent f.before f.rest f.whole f refl refl
+      let f = next_first tokens end fault (sym (reads (sheet tokens end) absent) ∙ bad) in
+      first_past tokens end fault bad absent f.before f.rest f.whole f refl refl
 
 -- the word of a fork stands next
 first_of_taken : {A : Type 0} (w : List ℕ) (first second : Grammar A) → Faults first → (token : Lexeme) (tokens : List Lexeme) (end : Place) (fault : Fault) → bytes_eq token.text w ≡ true
@@ -238,10 +277,17 @@ first_of_taken {A} w first second firsts token tokens end fault found bad =
     let goes : (later : List Lexeme) (other : Place) → read (fork w first second) (sheet (token ∷ later) other) ≡ read first (sheet later other) = λ later other. rw found refl in
     let f = firsts tokens end fault (sym (goes tokens end) ∙ bad) in
     record {
-      before = token ∷ f.before; rest = f.rest; reason = f.reason; whole = ap (λ (ts : List Lexeme). token ∷ ts) f.whole; place = f.place; more = f.more; are_spellings = f.are_spellings;
+      before = token ∷ f.before;
+      rest = f.rest;
+      reason = f.reason;
+      whole = ap (λ (ts : List Lexeme). token ∷ ts) f.whole;
+      place = f.place;
+      more = f.more;
+      are_spellings = f.are_spellings;
       fills = λ e. absurd cc;
       goes_on = λ other. ap is_ok (goes (f.before ++ f.more) other) ∙ f.goes_on other;
-      refused = λ t others later other e. ap is_ok (goes (f.before ++ t ∷ later) other) ∙ f.refused t others later other e }
+      refused = λ t others later other e. ap is_ok (goes (f.before ++ t ∷ later) other) ∙ f.refused t others later other e;
+    }
 
 fork_false : {A : Type 0} (w : List ℕ) (first second : Grammar A) (s : Sheet) → is_next w s ≡ false → read (fork w first second) s ≡ read second s
 fork_false w first second s absent = rw absent refl
@@ -256,7 +302,7 @@ first_of_barred {A} filling after w next fills token tokens end fault found bad 
     let stops : (later : List Lexeme) (other : Place) → read (barred w next) (sheet (token ∷ later) other) ≡ Err (fault_at token.place Limit) = λ later other. rw found refl in
     let same : fault ≡ fault_at token.place Limit = err_is fault (fault_at token.place Limit) (read (barred w next) (sheet (token ∷ tokens) end)) bad (stops tokens end) in
     here filling after (barred w next) fills (token ∷ tokens) end fault Limit same
-      (λ t others later other e. subst (λ (u : Lexeme). is_ok (read (barred w next) (sheet (u ∷ later) other)) ≡ false) (head_is token t tokens others e) (ap is_ok (stops later other)))
+    (λ t others later other e. subst (λ (u : Lexeme). is_ok (read (barred w next) (sheet (u ∷ later) other)) ≡ false) (head_is token t tokens others e) (ap is_ok (stops later other)))
 
 -- a token stands after the end
 first_of_extra : {A : Type 0} (filling : Bool) (after : List ℕ) (next : Grammar A) → Fills filling after (nothing next) → (x : A) → next ≡ done x → Faults (nothing next)
@@ -265,7 +311,7 @@ first_of_extra {A} filling after next fills x is [] end fault bad =
     absurd (no_ok (x, sheet [] end) fault (sym accepted ∙ bad))
 first_of_extra {A} filling after next fills x is (token ∷ tokens) end fault bad =
     here filling after (nothing next) fills (token ∷ tokens) end fault Extra (err_is fault (fault_at token.place Extra) (read (nothing next) (sheet (token ∷ tokens) end)) bad refl)
-      (λ t others later other e. refl)
+    (λ t others later other e. refl)
 
 -- A fault of a text whose places can each be filled is the first.
 first_fault : {A : Type 0} (filling : Bool) (after : List ℕ) (g : Grammar A) → Fills filling after g → Faults g
@@ -296,9 +342,17 @@ pub is_first : {A : Type 0} (after : List ℕ) (g : Grammar A) → Fills true af
 is_first {A} after g fills s fault bad =
     let f = first_fault true after g fills s.tokens s.end fault bad in
     record {
-      before = f.before; rest = f.rest; reason = f.reason; whole = f.whole; place = f.place; more = f.more; are_spellings = f.are_spellings; goes_on = f.goes_on;
+      before = f.before;
+      rest = f.rest;
+      reason = f.reason;
+      whole = f.whole;
+      place = f.place;
+      more = f.more;
+      are_spellings = f.are_spellings;
+      goes_on = f.goes_on;
       refused = λ token others later e accepted. true_is_not_false (is_ok (read g (sheet (f.before ++ token ∷ later) s.end))) (accepted s.end) (f.refused token others later s.end e);
-      not_whole = λ accepted. true_is_not_false (is_ok (read g s)) (accepted s.end) (ap is_ok bad) }
+      not_whole = λ accepted. true_is_not_false (is_ok (read g s)) (accepted s.end) (ap is_ok bad);
+    }
 
 -- the value of a text, or its first fault
 pub value_fault : {A : Type 0} (g : Grammar A) (s : Sheet) (fault : Fault) → (read g s >>= λ x. Ok x.0) ≡ Err fault → read g s ≡ Err fault

@@ -2,3 +2,4 @@ pub mod Parts
 pub mod Loops
 pub mod FirstFaults
 pub mod Filled
+pub mod ZeroColumns

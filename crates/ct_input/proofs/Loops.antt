@@ -1,5 +1,5 @@
 -- Items read one after the other, as a loop does.
-use Rattle.std.proofs.Common.{◌≡◌, ℕ, zero, suc, ◌-◌, ◌+◌, ◌≤◌, ◌<◌, List, [], ◌∷◌, ◌++◌, Option, Some, None, Result, Ok, Err, ℤ, refl, sym, ap, subst, ◌∙◌, append_assoc, length, arith}
+use Rattle.std.proofs.Common.{◌≡◌, ℕ, suc, ◌-◌, List, [], ◌∷◌, ◌++◌, Option, Some, None, Result, Ok, Err, ℤ, refl, sym, ap, ◌∙◌, append_assoc}
 use Rattle.std.proofs.lemmas.List.{append-nil}
 use Rattle.ct_input.specs.declared.fault.Fault.{Fault}
 use Rattle.ct_input.specs.declared.fault.InputStop.{InputStop}
@@ -58,7 +58,6 @@ signeds_stop e count size s h = Fails_bind e (token_at (signed_in size) s) (λ x
 -- ---- at most so many items
 
 module _ {X : Type 0} (item : ℕ → Grammar (Option X)) (uses : X → ℕ) (over : Grammar (List X)) where
-
   pub upto_step : (count spare : ℕ) (x : X) (s rest : Sheet) → read (item spare) s ≡ Ok (Some x, rest) → read (upto item uses over (suc count) spare) s ≡ with_item x (read (upto item uses over count (spare - uses x)) rest)
   unfolding upto
   upto_step count spare x s rest h =

@@ -1,5 +1,5 @@
 -- What it says of a fault that it is the first.
-use Rattle.std.specs.Prelude.{◌≡◌, ◌≢◌, ℕ, List, [], ◌∷◌, ◌++◌, IsOk, IsTrue, Result, Err}
+use Rattle.std.specs.Prelude.{◌≡◌, ◌≢◌, ℕ, List, [], ◌∷◌, ◌++◌, IsOk, IsTrue, Err}
 use Rattle.std.specs.List.{list_all, AllByRecursion}
 use Rattle.ct_text.specs.declared.place.Place.{Place}
 use Rattle.ct_text.specs.Tokens.{Lexeme, is_plain}

@@ -1,8 +1,8 @@
 -- Grammars: what may stand next in a text, and what follows it.
-use Rattle.std.specs.Prelude.{◌≡◌, ℕ, zero, suc, List, [], ◌∷◌, Bool, true, false, if◌then◌else◌, Result, Ok, Err, nat_le, ℤ, codes}
+use Rattle.std.specs.Prelude.{ℕ, zero, suc, List, [], ◌∷◌, Bool, true, false, if◌then◌else◌, Result, Ok, Err, nat_le, ℤ}
 use Rattle.std.specs.Str.{bytes_eq}
 use Rattle.ct_text.specs.declared.place.Place.{Place}
-use Rattle.ct_text.specs.Tokens.{Lexeme, Text}
+use Rattle.ct_text.specs.Tokens.{Lexeme}
 use Rattle.ct_text.specs.Numbers.{natural_of, signed_of}
 use Rattle.ct_text.specs.declared.number.NumberFault.{NumberFault}
 use Rattle.ct_text.specs.declared.number.NumberFault.TheVariants.{Spelling, Over}
@@ -60,7 +60,7 @@ if_some (Some x) next = next x
 unfoldable pub upto : {X : Type 0} → (ℕ → Grammar (Option X)) → (X → ℕ) → Grammar (List X) → ℕ → ℕ → Grammar (List X)
 upto item uses over zero spare = over
 upto item uses over (suc count) spare =
-  part (item spare) then λ found. if_some found then λ x. part (upto item uses over count (spare - uses x)) then λ xs. done (x ∷ xs)
+    part (item spare) then λ found. if_some found then λ x. part (upto item uses over count (spare - uses x)) then λ xs. done (x ∷ xs)
 
 -- ---- the next token
 

@@ -6,3 +6,4 @@ pub mod Reader
 pub mod FaultText
 pub mod Files
 pub mod FirstFault
+pub mod Refusals

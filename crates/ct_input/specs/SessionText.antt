@@ -1,5 +1,5 @@
 -- The session text of an instance with m rows.
-use Rattle.std.specs.Prelude.{ℕ, zero, suc, ◌+◌, ◌-◌, List, [], ◌∷◌, Option, Some, None, length, sum_by, codes}
+use Rattle.std.specs.Prelude.{ℕ, List, [], Option, Some, None, length, sum_by, codes}
 use Rattle.ct_input.specs.declared.script.Request.{Request}
 use Rattle.ct_input.specs.declared.script.Request.TheVariants.{Ask, Solve}
 use Rattle.ct_input.specs.declared.script.Phase.{Phase}
@@ -9,9 +9,9 @@ use Rattle.ct_input.specs.Grammar.{Grammar, done, nothing, word, number, fork, b
 -- a request, if one stands next
 unfoldable pub request : ℕ → Grammar (Option Request)
 request m =
-  fork (codes "ask") (part (numbers m 1000000000000) then λ b. done (Some (Ask b))) then
-  fork (codes "solve") (part (numbers m 1000000000000) then λ b. done (Some (Solve b))) then
-  done None
+    fork (codes "ask") (part (numbers m 1000000000000) then λ b. done (Some (Ask b))) then
+    fork (codes "solve") (part (numbers m 1000000000000) then λ b. done (Some (Solve b))) then
+    done None
 
 abbrev pub no_request : Grammar (List Request)
 no_request = barred (codes "ask") then barred (codes "solve") then done []
@@ -39,8 +39,8 @@ request_count = sum_by length
 
 unfoldable pub phase : ℕ → ℕ → Grammar (Option Phase)
 phase m spare =
-  fork (codes "phase") (number 0 16000000000000 then λ target. part (sessions m spare) then λ ss. done (Some (record { target = target; sessions = ss }))) then
-  done None
+    fork (codes "phase") (number 0 16000000000000 then λ target. part (sessions m spare) then λ ss. done (Some (record { target = target; sessions = ss }))) then
+    done None
 
 abbrev pub no_phase : Grammar (List Phase)
 no_phase = barred (codes "phase") then done []
@@ -54,5 +54,5 @@ phases m spare = phases_up_to m 64 spare
 
 unfoldable pub session_text : ℕ → Grammar Script
 session_text m =
-  word (codes "sessions") then word (codes "1") then part (phases m 100000) then λ ps.
-  word (codes "end") then nothing then done (record { phases = ps })
+    word (codes "sessions") then word (codes "1") then part (phases m 100000) then λ ps.
+    word (codes "end") then nothing then done (record { phases = ps })

@@ -1,15 +1,10 @@
 -- A text as tokens, and what a reader answers.
-use Rattle.std.specs.Prelude.{◌≡◌, ℕ, List, [], ◌∷◌, Bool, true, false, if◌then◌else◌, Result, Ok, Err, ◌<◌, nat_lt, nat_le, ℤ, codes}
-use Rattle.std.specs.Str.{bytes_eq}
+use Rattle.std.specs.Prelude.{◌≡◌, List, [], ◌∷◌, Result, Ok, Err}
 use Rattle.ct_text.specs.declared.place.Place.{Place}
 use Rattle.ct_text.specs.Tokens.{Lexeme, Text}
-use Rattle.ct_text.specs.Numbers.{natural_of, signed_of}
-use Rattle.ct_text.specs.declared.number.NumberFault.{NumberFault}
-use Rattle.ct_text.specs.declared.number.NumberFault.TheVariants.{Spelling, Over}
 use Rattle.ct_input.specs.declared.fault.Fault.{Fault}
 use Rattle.ct_input.specs.declared.fault.Fault.TheVariants as faults
 use Rattle.ct_input.specs.declared.fault.TextReason.{TextReason}
-use Rattle.ct_input.specs.declared.fault.TextReason.TheVariants.{End, Word, Number, Limit, Extra}
 use Rattle.ct_input.specs.declared.fault.InputStop.{InputStop}
 use Rattle.ct_input.specs.declared.fault.InputStop.TheVariants as stops
 

@@ -6,11 +6,9 @@ ghost use Rattle.ct_input.specs.FirstFault.{InstanceFaultIsFirst, SessionFaultIs
 /// fault they can't.
 pub fn instance_fault_is_first()
     ensures { InstanceFaultIsFirst }
-{
-}
+{}
 
 /// The tokens before a fault of a session text can go on to a session text, and with the token at the fault they can't.
 pub fn session_fault_is_first()
     ensures { SessionFaultIsFirst }
-{
-}
+{}

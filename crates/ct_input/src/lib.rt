@@ -16,5 +16,7 @@ mod script;
 mod sessions;
 
 pub use fault::{Fault, InputStop, TextReason};
+pub use instance_text::read_instance;
 pub use print::push_fault;
 pub use script::{Phase, Request, Script};
+pub use sessions::read_sessions;

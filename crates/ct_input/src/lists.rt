@@ -1,6 +1,6 @@
 //! Lists of numbers.
 
-ghost use Rattle.std.specs.Prelude.{◌≡◌, ◌<◌, ◌^◌};
+ghost use Rattle.std.specs.Prelude.{◌≡◌, ◌<◌, ◌^◌, IfOk, vec_len};
 ghost use Rattle.ct_input.specs.Sheet.{Gives};
 ghost use Rattle.ct_input.specs.Grammar.{read, numbers, signeds};
 
@@ -15,7 +15,8 @@ pub fn numbers(
     count: usize,
     high: u64,
 ) -> Result<Vec<u64>, InputStop>
-    ensures { Gives (λ v. (v.items, reader.new)) result (read (numbers count high) reader.old) }
+    ensures gives { Gives (λ v. (v.items, reader.new)) result (read (numbers count high) reader.old) }
+    ensures count { IfOk result (λ v. vec_len v ≡ count) }
 {
     let mut found = Vec::with_capacity(alloc, count)?;
     for _ in 0..count {
@@ -33,7 +34,8 @@ pub fn signeds(
     size: u64,
 ) -> Result<Vec<i64>, InputStop>
     requires { size < 2 ^ 63 }
-    ensures { Gives (λ v. (v.items, reader.new)) result (read (signeds count size) reader.old) }
+    ensures gives { Gives (λ v. (v.items, reader.new)) result (read (signeds count size) reader.old) }
+    ensures count { IfOk result (λ v. vec_len v ≡ count) }
 {
     let mut found = Vec::with_capacity(alloc, count)?;
     for _ in 0..count {

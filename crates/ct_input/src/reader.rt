@@ -24,7 +24,7 @@ impl<'a> Model for Reader<'a> {
 }
 
 impl<'a> Reader<'a> {
-    ghost use Rattle.std.specs.Prelude.{◌≡◌, ◌<◌, ◌≤◌, ◌^◌, true, IfOk, unsigned_abs, if◌then◌else◌};
+    ghost use Rattle.std.specs.Prelude.{◌≡◌, ◌<◌, ◌≤◌, ◌^◌, true, drop, IfOk, unsigned_abs, if◌then◌else◌};
     ghost use Rattle.ct_text.specs.Tokens.{text_of};
     ghost use Rattle.ct_input.specs.Sheet.{Gives, sheet_of, fault_next};
     ghost use Rattle.ct_input.specs.Grammar.{is_next, after_next, barred_at, token_at, word_in, number_in, signed_in, nothing_at};
@@ -41,6 +41,15 @@ impl<'a> Reader<'a> {
         ensures { self.new ≡ after_next self.old }
     {
         self.ahead = self.tokens.next();
+    }
+
+    /// Passes over so many tokens, or over all that are left.
+    pub fn skip(&mut self, count: u32)
+        ensures { self.new ≡ record { tokens = drop count self.old.tokens; end = self.old.end } }
+    {
+        for _ in 0..count {
+            self.advance();
+        }
     }
 
     /// The fault at the next token, or at the end.

@@ -10,21 +10,21 @@ use crate::fault::{Fault, InputStop};
 use crate::lists::numbers;
 use crate::reader::Reader;
 use crate::script::{Phase, Request, Script};
+use ct_instance::Instance;
 use ct_point::Seq;
 use std::alloc::Global;
 
 // The entries of b are within this limit.
 const RIGHT_LIMIT: u64 = 1_000_000_000_000;
+
 const TARGET_LIMIT: u64 = 16_000_000_000_000;
+
 const REQUEST_LIMIT: usize = 100_000;
+
 const FILE_LIMIT: usize = 16_777_216;
 
 #[tactic(auto, using(crate::proofs::Parts::read_part), unfolding(crate::specs::SessionText::request))]
-fn request_of(
-    alloc: Global,
-    reader: &mut Reader,
-    rows: usize,
-) -> Result<Option<Request>, InputStop>
+fn request_of(alloc: Global, reader: &mut Reader, rows: usize) -> Result<Option<Request>, InputStop>
     ensures { Gives (λ found. (found, reader.new)) result (read (request rows) reader.old) }
 {
     if reader.goes(b"ask") {
@@ -163,9 +163,8 @@ fn script_in(alloc: Global, reader: &mut Reader, rows: usize) -> Result<Script, 
     })
 }
 
-/// The script of a session file for an instance with so many rows.
 #[tactic(auto, unfolding(crate::specs::Files::session_file))]
-pub fn script_of(alloc: Global, rows: usize, bytes: &[u8]) -> Result<Script, InputStop>
+fn script_of(alloc: Global, rows: usize, bytes: &[u8]) -> Result<Script, InputStop>
     ensures { Gives (λ script. script) result (session_file rows bytes.now) }
 {
     if bytes.len() > FILE_LIMIT {
@@ -173,4 +172,12 @@ pub fn script_of(alloc: Global, rows: usize, bytes: &[u8]) -> Result<Script, Inp
     }
     let mut reader = Reader::new(bytes);
     script_in(alloc, &mut reader, rows)
+}
+
+/// The script of a session file of at most 16,777,216 bytes for the instance, in one pass over its bytes. The script
+/// takes 8 bytes a number of each request and a few words for each request, session and phase.
+pub fn read_sessions(alloc: Global, inst: &Instance, bytes: &[u8]) -> Result<Script, InputStop>
+    ensures { Gives (λ script. script) result (session_file inst.now.rows bytes.now) }
+{
+    script_of(alloc, inst.rows(), bytes)
 }

@@ -1,9 +1,7 @@
 -- Digits, read from the left.
-use Rattle.std.proofs.Common.{◌≡◌, ℕ, zero, suc, ◌+◌, ◌*◌, ◌-◌, ◌<◌, ◌≤◌, Bool, true, false, cond, ◌&&◌, List, [], ◌∷◌, length, get_or, drop, refl, sym, ap, ◌∙◌, subst, arith}
-use Rattle.std.specs.List.{list_all}
-use Rattle.std.specs.Char.{is_ascii_digit}
+use Rattle.std.proofs.Common.{◌≡◌, ℕ, ◌+◌, ◌*◌, ◌-◌, ◌<◌, ◌≤◌, List, [], ◌∷◌, length, get_or, drop, arith}
 use Rattle.std.proofs.Math.Seq.{drop-cons}
-use Rattle.ct_text.specs.Numbers.{value_after, value_of}
+use Rattle.ct_text.specs.Numbers.{value_after}
 
 -- more digits give no less
 pub value_after-ge : (n : ℕ) (digits : List ℕ) → n ≤ value_after n digits

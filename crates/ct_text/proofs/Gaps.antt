@@ -1,12 +1,12 @@
 -- The tokens of what is left of a text.
-use Rattle.std.proofs.Common.{◌≡◌, ℕ, zero, suc, ◌+◌, ◌*◌, ◌-◌, ◌<◌, ◌≤◌, Bool, true, false, cond, not, eqb, List, [], ◌∷◌, length, get_or, take, drop, refl, sym, ap, ◌∙◌, subst, arith}
-use Rattle.std.proofs.Common.{inl, inr, add-zero, add_assoc, add-one}
+use Rattle.std.proofs.Common.{◌≡◌, ℕ, suc, ◌+◌, ◌<◌, Bool, true, false, cond, not, eqb, List, [], ◌∷◌, take, drop, refl, sym, ap, ◌∙◌, arith}
+use Rattle.std.proofs.Common.{inl, inr, add-zero, add_assoc}
 use Rattle.std.specs.List.{prefix_len}
 use Rattle.std.proofs.lemmas.Bool.{cases_Bool}
 use Rattle.std.proofs.lemmas.Bool.Decides.{nat_tests}
 use Rattle.ct_text.specs.declared.place.Place.{Place}
 use Rattle.ct_text.specs.Place.{past, place_after}
-use Rattle.ct_text.specs.Tokens.{Lexeme, Mode, between, inside, comment, mode_after, is_plain, begins, tokens_in}
+use Rattle.ct_text.specs.Tokens.{Lexeme, Mode, between, inside, comment, is_plain, tokens_in}
 
 -- between tokens, or in a comment
 abbrev pub gap : Bool → Mode
@@ -39,9 +39,9 @@ tokens_in-inside p [] = refl
 tokens_in-inside p (b ∷ bs) =
     elim (cases_Bool (is_plain b)) [
       | inl plain ↦
-        let n = prefix_len is_plain bs in
-        let one : 1 + n ≡ suc n = omega arith in
-        rw plain (rw (one, past-plain p b plain) (tokens_in-inside (further p 1) bs ∙ ap (λ (q : Place). tokens_in between q (drop n bs)) (further-further p 1 n ∙ ap (further p) one)))
+          let n = prefix_len is_plain bs in
+          let one : 1 + n ≡ suc n = omega arith in
+          rw plain (rw (one, past-plain p b plain) (tokens_in-inside (further p 1) bs ∙ ap (λ (q : Place). tokens_in between q (drop n bs)) (further-further p 1 n ∙ ap (further p) one)))
       | inr blank ↦ rw (blank, blank, add-zero) refl
     ]
 
@@ -50,9 +50,9 @@ place_after-run p [] = sym (further-zero p)
 place_after-run p (b ∷ bs) =
     elim (cases_Bool (is_plain b)) [
       | inl plain ↦
-        let n = prefix_len is_plain bs in
-        let one : 1 + n ≡ suc n = omega arith in
-        rw plain (rw (one, past-plain p b plain) (place_after-run (further p 1) bs ∙ ap (λ (q : Place). place_after q (drop n bs)) (further-further p 1 n ∙ ap (further p) one)))
+          let n = prefix_len is_plain bs in
+          let one : 1 + n ≡ suc n = omega arith in
+          rw plain (rw (one, past-plain p b plain) (place_after-run (further p 1) bs ∙ ap (λ (q : Place). place_after q (drop n bs)) (further-further p 1 n ∙ ap (further p) one)))
       | inr blank ↦ rw (blank, add-zero) refl
     ]
 
@@ -62,8 +62,8 @@ tokens_in-front p [] n same some = absurd (omega arith)
 tokens_in-front p (b ∷ bs) n same some =
     elim (cases_Bool (is_plain b)) [
       | inl plain ↦
-        let first : Lexeme = record { place = p; text = take n (b ∷ bs) } in
-        let whole : tokens_in between p (b ∷ bs) ≡ first ∷ tokens_in inside p (b ∷ bs) = rw (same, plain) refl in
-        whole ∙ ap (λ (others : List Lexeme). first ∷ others) (rw same (tokens_in-inside p (b ∷ bs)))
+          let first : Lexeme = record { place = p; text = take n (b ∷ bs) } in
+          let whole : tokens_in between p (b ∷ bs) ≡ first ∷ tokens_in inside p (b ∷ bs) = rw (same, plain) refl in
+          whole ∙ ap (λ (others : List Lexeme). first ∷ others) (rw same (tokens_in-inside p (b ∷ bs)))
       | inr blank ↦ absurd (let none : prefix_len is_plain (b ∷ bs) ≡ 0 = rw blank refl in omega arith)
     ]

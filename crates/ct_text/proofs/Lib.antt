@@ -1,2 +1,4 @@
 pub mod Gaps
 pub mod Digits
+pub mod Decimals
+pub mod Standing

@@ -2,3 +2,5 @@ pub mod Place
 pub mod Tokens
 pub mod Token
 pub mod Numbers
+pub mod NumberLaw
+pub mod TokenLaw

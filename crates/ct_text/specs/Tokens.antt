@@ -1,5 +1,5 @@
 -- The tokens of a text, by its bytes.
-use Rattle.std.specs.Prelude.{◌≡◌, ℕ, ◌+◌, ◌<◌, ◌^◌, ◌==◌, Bool, true, false, not, ◌||◌, if◌then◌else◌, IsTrue, List, [], ◌∷◌, length, take_while}
+use Rattle.std.specs.Prelude.{ℕ, ◌+◌, ◌<◌, ◌^◌, ◌==◌, Bool, false, not, ◌||◌, if◌then◌else◌, IsTrue, List, [], ◌∷◌, length, take_while}
 use Rattle.ct_text.specs.declared.place.Place.{Place}
 use Rattle.ct_text.specs.Place.{past, place_after}
 
@@ -44,8 +44,8 @@ begins _ byte = false
 abbrev pub tokens_in : Mode → Place → List ℕ → List Lexeme
 tokens_in mode place [] = []
 tokens_in mode place (byte ∷ bytes) =
-  let others = tokens_in (mode_after mode byte) (past place byte) bytes in
-  if begins mode byte then record { place = place; text = take_while is_plain (byte ∷ bytes) } ∷ others else others
+    let others = tokens_in (mode_after mode byte) (past place byte) bytes in
+    if begins mode byte then record { place = place; text = take_while is_plain (byte ∷ bytes) } ∷ others else others
 
 abbrev pub text_in : Mode → Place → List ℕ → Text
 text_in mode place bytes = record { tokens = tokens_in mode place bytes; place = place; end = place_after place bytes }

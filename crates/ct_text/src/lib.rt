@@ -5,6 +5,7 @@
 //! [`push_natural`] and [`push_signed`] write the one decimal text of a number.
 #![tactic(auto)]
 
+pub mod laws;
 mod number;
 mod place;
 mod print;
@@ -14,3 +15,6 @@ pub use number::{NumberFault, natural, signed};
 pub use place::Place;
 pub use print::{push_natural, push_signed};
 pub use token::{Token, Tokens};
+
+#[cfg(test)]
+mod tests;

@@ -1,5 +1,4 @@
-use Rattle.std.proofs.Common.{◌≡◌, ◌≤◌, ◌+◌, ◌*◌, ◌-◌, ◌<◌, length, get_or, drop, arith}
-use Rattle.ct_text.specs.Numbers.{value_of}
+use Rattle.std.proofs.Common.{◌+◌, ◌*◌, ◌-◌, ◌<◌, length, get_or, drop, arith}
 use Rattle.ct_text.proofs.Digits.{value_after-ge, value_after-drop}
 use Rattle.ct_text.proofs.number.value_within.Goals as goal
 

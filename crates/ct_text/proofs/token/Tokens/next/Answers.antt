@@ -1,15 +1,13 @@
-use Rattle.std.proofs.Common.{◌≡◌, ◌<◌, ◌∙◌, sym, ap, subst, refl, arith, List, ℕ}
-use Rattle.ct_text.specs.declared.place.Place.{Place}
-use Rattle.ct_text.specs.Place.{place_after}
-use Rattle.ct_text.specs.Tokens.{Text, between, tokens_in, past_token}
-use Rattle.ct_text.proofs.Gaps.{further, tokens_in-front, place_after-run}
+use Rattle.std.proofs.Common.{◌≡◌, ◌∙◌, sym, ap, refl, arith}
+use Rattle.ct_text.specs.Tokens.{Text, between, tokens_in}
+use Rattle.ct_text.proofs.Gaps.{tokens_in-front, place_after-run}
 use Rattle.ct_text.proofs.token.Tokens.next.Goals as goal
 
 pub returns-clause-cases : goal.returns-clause-cases
 returns-clause-cases c =
     let front = tokens_in-front c.after_gap.result.1 c.after_gap.result.0.now c.token_len-len.result c.token_len-len.ensures (omega arith) in
     let before : c.args.self.now.tokens ≡ tokens_in between c.after_gap.result.1 c.after_gap.result.0.now =
-      sym (ap (λ (t : Text). t.tokens) c.self.view_is) ∙ sym c.after_gap.ensures.tokens in
+    sym (ap (λ (t : Text). t.tokens) c.self.view_is) ∙ sym c.after_gap.ensures.tokens in
     (before ∙ rw (c.split_at.ensures.front, c.split_at.ensures.back) front, rw c.split_at.ensures.front_len refl)
 
 pub returns-clause-end : goal.returns-clause-end

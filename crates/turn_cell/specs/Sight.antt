@@ -1,5 +1,5 @@
 -- What contracts see of a cell and of a pass.
-use Rattle.std.specs.Prelude.{◌≡◌, ℕ, zero, suc, ◌+◌, ◌/◌, ◌%◌, List, [], ◌∷◌, ◌++◌, length, drop, max, Option, Some, None}
+use Rattle.std.specs.Prelude.{◌≡◌, ℕ, ◌/◌, ◌%◌, List, [], ◌∷◌, ◌++◌, length, drop, Option, Some}
 use Rattle.atomic_table.specs.Seated.{TableId}
 
 -- which cell it is, and the value with which it was opened, whose name the cell keeps

@@ -16,6 +16,8 @@ mod numbered;
 mod pass;
 mod rule;
 mod stops;
+#[cfg(test)]
+mod tests;
 
 pub use cell::TurnCell;
 pub use held::Held;

@@ -3,7 +3,7 @@ ghost use Rattle.std.specs.Prelude.{◌≡◌, ℕ, IfOk};
 
 use std::alloc::AllocError;
 
-/// A value with a number, which belongs to one name. Values of one name and one number may stand for one another.
+/// A value with a number, which belongs to one name.
 pub trait Numbered: Sized {
     type Name;
 
@@ -14,7 +14,7 @@ pub trait Numbered: Sized {
     fn number(&self) -> u64
         ensures { result ≡ number_of self.now };
 
-    /// An equal value. It places nothing, but a count of owners may be full: then it is refused.
+    /// An equal value, for instance one more owner of what both point to. A refusal counts as want of memory.
     fn share(&self) -> Result<Self, AllocError>
         ensures { IfOk result (λ v. v ≡ self.now) };
 }

@@ -1,4 +1,4 @@
-use Rattle.std.proofs.Common.{rules, ◌≡◌, ℕ, ◌∷◌, Option, Some, refl, ap, ◌∙◌}
+use Rattle.std.proofs.Common.{rules, ◌≡◌, ℕ, ◌∷◌, Some, refl, ap, ◌∙◌}
 use Rattle.atomic_table.specs.Table.{rest}
 use Rattle.turn_cell.specs.Told.{carried_with}
 use Rattle.turn_cell.proofs.Steps.{releases_turn}

@@ -1,4 +1,4 @@
-use Rattle.std.proofs.Common.{rules, ◌≡◌, ℕ, ◌%◌, List, [], ◌∷◌, Option, Some, None, ap, ◌∙◌, arith}
+use Rattle.std.proofs.Common.{rules, ◌≡◌, ◌%◌, [], ◌∷◌, Some, None, ap, ◌∙◌, arith}
 use Rattle.turn_cell.specs.Told.{carried_with}
 use Rattle.turn_cell.proofs.Steps.{takes_turn, exchanges}
 use Rattle.turn_cell.proofs.cell.TurnCell.take.Goals as goal

@@ -6,5 +6,5 @@ abbrev pub invariant-loop : goal.invariant-loop
 invariant-loop g l = record {
   pass : l.pass ≡ record l.initial.pass { seen = l.pass.seen; words = l.pass.words };
   words : Extends l.initial.pass.words l.pass.words;
-  rises : l.initial.pass.seen ≤ l.pass.seen
+  rises : l.initial.pass.seen ≤ l.pass.seen;
 }

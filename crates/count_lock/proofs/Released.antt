@@ -4,6 +4,7 @@ use Rattle.std.specs.Prelude.{IsSomeAnd}
 use Rattle.atomic_table.specs.Table.{Me, rest}
 use Rattle.count_lock.specs.declared.note.Note.{Note}
 use Rattle.count_lock.specs.Pairs.{recounted}
+use Rattle.count_lock.proofs.Steps.{exchanges_in}
 use Rattle.count_lock.specs.Told.{releases, carried_with}
 
 pub some_and : {A : Type 0} (o : Option A) (P : A → Type 0) → IsSomeAnd o P → (a : A) × (o ≡ Some a) × P a
@@ -20,10 +21,6 @@ one_recounted xs counts number old first single = let long = ap length first in 
     ap (recounted counts) (first ∙ ap (λ (l : List (ℕ × ℕ)). (number, old) ∷ l) left)
 
 module _ {V : Type 0} where
-  -- the slot that a pass has in hand after the exchange in
-  pub in_hand : (carried now : List (ℕ × Option V)) (held : Option (List ℕ)) (counts : List ℕ) (value : V) → now ≡ (0, Some value) ∷ rest carried → carried ≡ carried_with held → held ≡ Some counts → now ≡ (0, Some value) ∷ []
-  in_hand carried now held counts value is before holds = is ∙ ap (λ (l : List (ℕ × Option V)). (0, Some value) ∷ rest l) (before ∙ ap carried_with holds)
-
   abbrev pub freed : Note V → ℕ → ℕ → Note V
   freed note number count = record note { pairs = (number, count) ∷ []; held = None }
 
@@ -32,6 +29,6 @@ module _ {V : Type 0} where
       → length me.0.pairs ≡ 1 → me.0.held ≡ Some held → swapped ≡ (me.0, (0, Some value) ∷ rest me.1) → ((v : V) → swapped.1 ≡ (0, Some v) ∷ [] → after ≡ (releases swapped.0 (counts_of v), []))
       → after ≡ (freed me.0 number (slice_index (counts_of value) number), [])
   unlocked counts_of me swapped after number count held value carried first single holds exchanged released =
-      released value (in_hand me.1 swapped.1 me.0.held held value (ap (λ (m : Me (Option V) (Note V)). m.1) exchanged) carried holds)
+      released value (exchanges_in me.1 swapped.1 me.0.held held value (ap (λ (m : Me (Option V) (Note V)). m.1) exchanged) carried holds)
       ∙ (ap (λ (m : Me (Option V) (Note V)). (releases m.0 (counts_of value), [])) exchanged
       ∙ ap (λ (l : List (ℕ × ℕ)). (record me.0 { pairs = l; held = None }, [])) (one_recounted me.0.pairs (counts_of value) number count first single))

@@ -11,7 +11,7 @@ use Rattle.atomic_table.proofs.Lists.{at_set, set_else, set_again, at_longer, at
 use Rattle.count_lock.specs.declared.note.Note.{Note}
 use Rattle.count_lock.specs.Pairs.{Agree, times, HasEach, GrowsAt, first_number}
 use Rattle.count_lock.specs.Count.{Knows, IsFree, IsTaken, CountRule, first_note, spent_note, worth, total, once}
-use Rattle.count_lock.specs.Told.{Took, Released, wins, releases, keeps_most, gives_last, takes_in}
+use Rattle.count_lock.specs.Told.{carried_with, Took, Released, wins, releases, keeps_most, gives_last, takes_in}
 use Rattle.count_lock.proofs.Totals.{total_set, total_snoc, total_one, total_two}
 use Rattle.count_lock.proofs.PairLists.{times_append, times_first, agree_append, agree_others, times_recounted, agree_recounted, length_recounted, times_parted, agree_but_last, agree_last, some_last, some_but_last, times_numbered, times_above, length_numbered, agree_opening}
 
@@ -25,16 +25,16 @@ set_each : {A : Type 0} (P : ℕ → A → Type 0) (l : List A) (i : ℕ) (a : A
 set_each {A} P l i a mine others j b e = ⊎_elim (λ (t : (j ≡ i) × (a ≡ b)). subst (λ (x : ℕ × A). P x.0 x.1) (λ k. (sym t.0 k, t.1 k)) mine)
     (λ (t : (j ≢ i) × (get_elem? l j ≡ some b)). others j b t.0 t.1) (at_set l i j a b e)
 
--- exchange out and exchange in: the pass has the slot of the lock in hand, and no view changes
-pub exchanges : {V : Type 0} (carried : List (ℕ × Option V)) (inside : Option V) → carried ≡ (0, inside) ∷ [] → (old : Option V) × (carried ≡ (0, old) ∷ rest carried)
-exchanges {V} carried inside is = (inside, is ∙ ap (λ (l : List (ℕ × Option V)). (0, inside) ∷ rest l) (sym is))
+module _ {V : Type 0} where
+  -- exchange out: the pass has the slot of the lock in hand, and no view changes
+  pub exchanges_out : (carried : List (ℕ × Option V)) (inside : Option V) → carried ≡ (0, inside) ∷ [] → (old : Option V) × (carried ≡ (0, old) ∷ rest carried)
+  exchanges_out carried inside is = (inside, is ∙ ap (λ (l : List (ℕ × Option V)). (0, inside) ∷ rest l) (sym is))
 
-once_small : (p n : ℕ) → once p n ≤ 1
-once_small p n = grind (arith, nat_tests)
+  -- exchange in: the slot in hand, and nothing else, has the value that goes home, and no view changes
+  pub exchanges_in : (carried now : List (ℕ × Option V)) (held : Option (List ℕ)) (counts : List ℕ) (value : V) → now ≡ (0, Some value) ∷ rest carried → carried ≡ carried_with held → held ≡ Some counts → now ≡ (0, Some value) ∷ []
+  exchanges_in carried now held counts value is before holds = is ∙ ap (λ (l : List (ℕ × Option V)). (0, Some value) ∷ rest l) (before ∙ ap carried_with holds)
 
-once_below : (p n : ℕ) → 1 ≤ once p n → p < n
-once_below p n stands = grind (arith, nat_tests)
-
+-- the value in hand, or d
 abbrev some_or : {V : Type 0} → V → Option V → V
 some_or d None = d
 some_or d (Some v) = v
@@ -42,6 +42,13 @@ some_or d (Some v) = v
 abbrev in_hand_or : {V : Type 0} → V → List (ℕ × Option V) → V
 in_hand_or d [] = d
 in_hand_or d (x ∷ xs) = some_or d x.1
+
+-- each number below the number of passes counts once, and no other
+once_small : (p n : ℕ) → once p n ≤ 1
+once_small p n = grind (arith, nat_tests)
+
+once_below : (p n : ℕ) → 1 ≤ once p n → p < n
+once_below p n stands = grind (arith, nat_tests)
 
 once_is : (p n : ℕ) → p < n → once p n ≡ 1
 once_is p n low = grind (arith, nat_tests)

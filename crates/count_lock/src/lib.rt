@@ -15,6 +15,8 @@ mod lock;
 mod note;
 mod pass;
 mod rule;
+#[cfg(test)]
+mod tests;
 
 pub use counted::Counted;
 pub use lock::CountLock;

@@ -35,7 +35,8 @@ impl<V: Counted + Drop> CountLock<V> {
     ghost use Rattle.count_lock.specs.Sight.{IsOfLock, fresh_passes};
 
     /// A lock with this value at home, and one pass for each of its counts, in the order of their numbers.
-    /// The lock keeps the value's name. Where memory is refused the value is dropped.
+    /// The lock keeps the value's name. It takes memory for one word, one slot and the passes, and for their counts
+    /// until it returns; where that is refused the value is dropped. Its time is in proportion to the passes.
     pub fn open(
         alloc: Global,
         value: V,
@@ -97,8 +98,8 @@ impl<V: Counted + Drop> CountLock<V> {
         dealt
     }
 
-    /// Takes the lock, by one `fetch_or` at a time until it has it, and so may wait for ever.
-    /// It takes no memory.
+    /// Takes the lock as a test-and-set lock does, by one `fetch_or` at a time until it has it, and so may wait for
+    /// ever. It takes no memory.
     pub fn lock<R: Wait>(&self, rt: &R, pass: &mut LockPass<V>) -> V
         requires own { IsOfLock self.now pass.old }
         requires idle { pass.old.held ≡ None }
@@ -131,7 +132,7 @@ impl<V: Counted + Drop> CountLock<V> {
         Some(value)
     }
 
-    /// Frees the lock, with this value. The pass then has the value's count of its number.
+    /// Frees the lock, with this value, by one swap. The pass then has the value's count of its number.
     pub fn unlock(&self, pass: &mut LockPass<V>, value: V)
         requires own { IsOfLock self.now pass.old }
         requires one_pair { length pass.old.pairs ≡ 1 }
@@ -145,7 +146,7 @@ impl<V: Counted + Drop> CountLock<V> {
         self.table.shared.swap::<Release<V>>(&mut pass.seat, 0, 0);
     }
 
-    /// The pass takes over the pairs of the other.
+    /// The pass takes over the pairs of the other, which is spent. One atomic step, with no memory.
     pub fn join(&self, pass: &mut LockPass<V>, other: LockPass<V>)
         requires own { IsOfLock self.now pass.old × IsOfLock self.now other }
         requires idle { (pass.old.held ≡ None) × (other.held ≡ None) }

@@ -3,12 +3,12 @@ use Rattle.std.specs.Prelude.{◌≡◌, ℕ, ◌/◌, ◌%◌, List, [], ◌∷
 use Rattle.atomic_table.specs.Seated.{TableId}
 
 -- which cell it is, and the value with which it was opened, whose name the cell keeps
-pub record Place (V : Type 0) : Type 0 where
+pub record CellPlace (V : Type 0) : Type 0 where
   pub cell : TableId
   pub first : V
 
 -- a pass of a cell: the number that it has seen, the number with which it holds the turn, the words that its takes found, and how often it was split
-pub record Sight (V : Type 0) : Type 0 where
+pub record CellSight (V : Type 0) : Type 0 where
   pub cell : TableId
   pub first : Option V
   pub seen : ℕ
@@ -17,8 +17,8 @@ pub record Sight (V : Type 0) : Type 0 where
   pub splits : ℕ
 
 -- the pass is one of this cell
-abbrev pub IsOf : {V : Type 0} → Place V → Sight V → Type 0
-IsOf place pass = (pass.cell ≡ place.cell) × (pass.first ≡ Some place.first)
+abbrev pub IsOfCell : {V : Type 0} → CellPlace V → CellSight V → Type 0
+IsOfCell place pass = (pass.cell ≡ place.cell) × (pass.first ≡ Some place.first)
 
 -- the word that was found last
 abbrev pub latest : List ℕ → ℕ
@@ -37,5 +37,5 @@ abbrev pub Extends : List ℕ → List ℕ → Type 0
 Extends old new = new ≡ old ++ drop (length old) new
 
 -- a pass after one take that found this word, where it does not keep the turn
-abbrev pub after_take : {V : Type 0} → Sight V → ℕ → Sight V
+abbrev pub after_take : {V : Type 0} → CellSight V → ℕ → CellSight V
 after_take pass word = record pass { seen = word / 2; words = pass.words ++ word ∷ [] }

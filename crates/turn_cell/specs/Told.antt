@@ -3,10 +3,10 @@ use Rattle.std.specs.Prelude.{◌≡◌, ℕ, ◌+◌, ◌*◌, ◌/◌, ◌^◌
 use Rattle.atomic_table.specs.Table.{Me, Step, rest}
 use Rattle.atomic_table.specs.Seated.{TableId}
 use Rattle.turn_cell.specs.declared.note.Note.{Note}
-use Rattle.turn_cell.specs.Sight.{Sight, IsEven, IsOdd}
+use Rattle.turn_cell.specs.Sight.{CellSight, IsEven, IsOdd}
 
 module _ {V : Type 0} where
-  abbrev pub sight_of : TableId → Note V → Sight V
+  abbrev pub sight_of : TableId → Note V → CellSight V
   sight_of cell note = record { cell = cell; first = note.first; seen = note.seen; held = note.held; words = note.words; splits = note.splits }
 
   -- the slot that a pass carries: none, or the empty one while it holds the turn

@@ -21,9 +21,9 @@ pub struct TurnCell<V: Numbered + Drop> {
 
 impl<V: Numbered + Drop> Model for TurnCell<V> {
     ghost use Rattle.std.specs.Prelude.{◌≡◌};
-    ghost use Rattle.turn_cell.specs.Sight.{Place};
+    ghost use Rattle.turn_cell.specs.Sight.{CellPlace};
 
-    ghost Value = { Place V };
+    ghost Value = { CellPlace V };
 
     ghost view = { λ c. record { cell = c.table.shared.table_id; first = c.table.shared.key.value } };
 
@@ -32,15 +32,15 @@ impl<V: Numbered + Drop> Model for TurnCell<V> {
 
 impl<V: Numbered + Drop> TurnCell<V> {
     ghost use Rattle.std.specs.Prelude.{◌≡◌, ◌+◌, ◌*◌, ◌/◌, ◌^◌, ◌<◌, ◌≤◌, [], max, ℕ, None, Some, IfOk, IfErr};
-    ghost use Rattle.turn_cell.specs.Sight.{IsOf, IsOdd, IsEven, latest, Extends, after_take};
+    ghost use Rattle.turn_cell.specs.Sight.{IsOfCell, IsOdd, IsEven, latest, Extends, after_take};
     ghost use Rattle.turn_cell.specs.Stops.{Stops};
 
     /// A cell with this value at home, and its first pass. The cell keeps the value's name.
-    /// Where memory is refused the value is dropped.
+    /// It takes memory for one word and one slot; where that is refused the value is dropped.
     pub fn open(alloc: Global, first: V) -> Result<(TurnCell<V>, Pass<V>), AllocError>
         requires { V.number_of first < 2 ^ 62 }
         ensures opened { IfOk result (λ c. c.0.first ≡ first) }
-        ensures pass { IfOk result (λ c. IsOf c.0 c.1 × (c.1.seen ≡ V.number_of first) × (c.1.held ≡ None) × (c.1.words ≡ []) × (c.1.splits ≡ 0)) }
+        ensures pass { IfOk result (λ c. IsOfCell c.0 c.1 × (c.1.seen ≡ V.number_of first) × (c.1.held ≡ None) × (c.1.words ≡ []) × (c.1.splits ≡ 0)) }
     {
         let number = first.number();
         let about = Snapshot::of(&first);
@@ -56,9 +56,9 @@ impl<V: Numbered + Drop> TurnCell<V> {
         }
     }
 
-    /// A second pass, which has seen what the old one has.
+    /// A second pass, which has seen what the old one has. One atomic step, with no memory.
     pub fn split(&self, pass: &mut Pass<V>) -> Pass<V>
-        requires { IsOf self.now pass.old }
+        requires { IsOfCell self.now pass.old }
         ensures kept { pass.new ≡ record pass.old { splits = pass.old.splits + 1 } }
         ensures given { result ≡ record pass.old { held = None; words = []; splits = pass.old.splits + 1 } }
     {
@@ -69,9 +69,9 @@ impl<V: Numbered + Drop> TurnCell<V> {
         }
     }
 
-    /// The pass takes in what the other has seen, and the other is spent.
+    /// The pass takes in what the other has seen, and the other is spent. One atomic step, with no memory.
     pub fn join(&self, pass: &mut Pass<V>, other: Pass<V>)
-        requires own { IsOf self.now pass.old × IsOf self.now other }
+        requires own { IsOfCell self.now pass.old × IsOfCell self.now other }
         requires idle { (pass.old.held ≡ None) × (other.held ≡ None) }
         ensures { pass.new ≡ record pass.old { seen = max pass.old.seen other.seen; splits = max pass.old.splits other.splits } }
     {
@@ -84,7 +84,7 @@ impl<V: Numbered + Drop> TurnCell<V> {
 
     /// The number in the cell, by one load.
     pub fn newest(&self, pass: &mut Pass<V>) -> u64
-        requires { IsOf self.now pass.old }
+        requires { IsOfCell self.now pass.old }
         ensures seen { pass.new ≡ record pass.old { seen = result } }
         ensures rises { pass.old.seen ≤ result }
     {
@@ -96,7 +96,7 @@ impl<V: Numbered + Drop> TurnCell<V> {
     /// Takes the turn if it is free, by one `fetch_or` that waits for nobody. It takes no memory.
     /// `Busy` comes exactly where the word that was found is odd.
     pub fn take(&self, pass: &mut Pass<V>) -> Result<Held<V>, Busy>
-        requires own { IsOf self.now pass.old }
+        requires own { IsOfCell self.now pass.old }
         requires idle { pass.old.held ≡ None }
         ensures busy { IfErr result (λ b. IsOdd b.word × (pass.new ≡ after_take pass.old b.word)) }
         ensures turn { IfOk result (λ v. pass.new ≡ record (after_take pass.old (2 * V.number_of v)) { held = Some (V.number_of v) }) }
@@ -114,9 +114,9 @@ impl<V: Numbered + Drop> TurnCell<V> {
         Ok(Held { value })
     }
 
-    /// Gives the turn back, with the value that was held.
+    /// Gives the turn back, with the value that was held, by one swap. It takes no memory.
     pub fn give(&self, pass: &mut Pass<V>, held: Held<V>)
-        requires own { IsOf self.now pass.old }
+        requires own { IsOfCell self.now pass.old }
         requires turn { pass.old.held ≡ Some (V.number_of held) }
         requires name { V.name_of held ≡ V.name_of self.now.first }
         ensures given { pass.new ≡ record pass.old { seen = V.number_of held; held = None } }
@@ -131,7 +131,7 @@ impl<V: Numbered + Drop> TurnCell<V> {
     /// found an even one.
     #[tactic(auto, using(crate::proofs::Words::latest_snoc))]
     pub fn try_read(&self, pass: &mut Pass<V>) -> Result<V, ReadStop>
-        requires own { IsOf self.now pass.old }
+        requires own { IsOfCell self.now pass.old }
         requires idle { pass.old.held ≡ None }
         ensures one_take { pass.new ≡ after_take pass.old (latest pass.new.words) }
         ensures value { IfOk result (λ v. (latest pass.new.words ≡ 2 * V.number_of v) × (V.name_of v ≡ V.name_of self.now.first)) }
@@ -154,7 +154,7 @@ impl<V: Numbered + Drop> TurnCell<V> {
     /// Puts the value into the cell, or drops it where the number at home is at least its number.
     /// It tries to take the turn until it has it, and so may wait for ever. It takes no memory.
     pub fn put<R: Wait>(&self, rt: &R, pass: &mut Pass<V>, v: V)
-        requires own { IsOf self.now pass.old }
+        requires own { IsOfCell self.now pass.old }
         requires idle { pass.old.held ≡ None }
         requires value { (V.number_of v < 2 ^ 62) × (V.name_of v ≡ V.name_of self.now.first) }
         ensures greater { pass.new ≡ record pass.old { seen = max (latest pass.new.words / 2) (V.number_of v); words = pass.new.words } }
@@ -167,7 +167,7 @@ impl<V: Numbered + Drop> TurnCell<V> {
 
     // Tries to take the turn until it has it.
     fn take_at_last<R: Wait>(&self, rt: &R, pass: &mut Pass<V>) -> V
-        requires own { IsOf self.now pass.old }
+        requires own { IsOfCell self.now pass.old }
         requires idle { pass.old.held ≡ None }
         ensures turn { pass.new ≡ record pass.old { seen = V.number_of result; words = pass.new.words; held = Some (V.number_of result) } }
         ensures value { (V.number_of result < 2 ^ 62) × (V.name_of result ≡ V.name_of self.now.first) }
@@ -185,7 +185,7 @@ impl<V: Numbered + Drop> TurnCell<V> {
 
     // The value goes home, and the turn is free.
     fn release(&self, pass: &mut Pass<V>, value: V)
-        requires own { IsOf self.now pass.old }
+        requires own { IsOfCell self.now pass.old }
         requires turn { (k : ℕ) × (pass.old.held ≡ Some k) × (k ≤ V.number_of value) }
         requires value { (V.number_of value < 2 ^ 62) × (V.name_of value ≡ V.name_of self.now.first) }
         ensures given { pass.new ≡ record pass.old { seen = V.number_of value; held = None } }

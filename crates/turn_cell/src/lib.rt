@@ -2,7 +2,8 @@
 //!
 //! One word is twice the number of the value at home, and one more while somebody holds the turn.
 //! One slot holds the value. Who finds the word even by its one take has the turn and the slot
-//! until it gives them back; who finds it odd is told so at once. Only `put` tries again.
+//! until it gives them back, as under a test-and-set lock; who finds it odd is told so at once.
+//! Only `put` tries again.
 //! Each thread steps with a pass of its own, which knows the greatest number that it has seen:
 //! the number in the cell never falls, so no read gives less than what the pass had seen before.
 //! The rule of the cell holds between any two atomic steps: `specs/Turn.antt` states it, and

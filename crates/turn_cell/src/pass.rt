@@ -13,9 +13,9 @@ pub struct Pass<V> {
 
 impl<V> Model for Pass<V> {
     ghost use Rattle.std.specs.Prelude.{◌≡◌, false};
-    ghost use Rattle.turn_cell.specs.Sight.{Sight};
+    ghost use Rattle.turn_cell.specs.Sight.{CellSight};
 
-    ghost Value = { Sight V };
+    ghost Value = { CellSight V };
 
     ghost use Rattle.turn_cell.specs.Told.{sight_of, carried_with};
 

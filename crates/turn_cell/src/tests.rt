@@ -1,5 +1,5 @@
 ghost use Rattle.std.specs.Prelude.{◌≡◌, None};
-ghost use Rattle.turn_cell.specs.Sight.{IsOf};
+ghost use Rattle.turn_cell.specs.Sight.{IsOfCell};
 
 use crate::{Busy, Numbered, Pass, ReadStop, TurnCell};
 use std::alloc::AllocError;
@@ -118,8 +118,8 @@ fn rises<R: Wait>(
     cell: &TurnCell<Reading>,
     mut pass: Pass<Reading>,
 ) -> (Pass<Reading>, bool)
-    requires { IsOf cell.now pass × (pass.held ≡ None) }
-    ensures { IsOf cell.now result.0 × (result.0.held ≡ None) }
+    requires { IsOfCell cell.now pass × (pass.held ≡ None) }
+    ensures { IsOfCell cell.now result.0 × (result.0.held ≡ None) }
 {
     let mut last = pass.seen();
     let mut rose = true;

@@ -2,8 +2,8 @@ use Rattle.std.proofs.Common.{rules, ◌≡◌, ℕ, ◌∷◌, [], Some, None, 
 use Rattle.count_lock.specs.Pairs.{GrowsAt, first_number}
 use Rattle.count_lock.specs.Sight.{LockSight}
 use Rattle.count_lock.specs.Told.{carried_with, Fits, sight_of}
-use Rattle.count_lock.proofs.Steps.{releases_lock}
-use Rattle.count_lock.proofs.Released.{some_and, in_hand, freed, unlocked}
+use Rattle.count_lock.proofs.Steps.{releases_lock, exchanges_in}
+use Rattle.count_lock.proofs.Released.{some_and, freed, unlocked}
 use Rattle.count_lock.proofs.lock.CountLock.unlock.Goals as goal
 
 pub swap-requires : goal.swap-requires
@@ -13,7 +13,7 @@ swap-requires g c = let counts = g.V.Counted.counts_of c.args.value in let holds
       search rules,
       search rules,
       releases_lock _ _ g.V.Counted.shows _ _ _ _ _ _ holds.0 c.args.value (ap (λ m. m.0.spent) now ∙ c.pass.invariant.0) (ap (λ m. m.0.held) now ∙ before)
-          (in_hand _ _ _ _ _ (ap (λ m. m.1) now) c.pass.invariant.1 before) (search rules)
+          (exchanges_in _ _ _ _ _ (ap (λ m. m.1) now) c.pass.invariant.1 before) (search rules)
           (subst (λ l. GrowsAt (first_number l) holds.0 counts) (sym same) holds.2) (ap length same ∙ c.requires.one_pair),
     )
 

@@ -1,0 +1,5 @@
+pub mod Totals
+pub mod PairLists
+pub mod Steps
+pub mod Released
+pub mod Dealing

@@ -1,0 +1,4 @@
+pub mod Pairs
+pub mod Sight
+pub mod Count
+pub mod Told

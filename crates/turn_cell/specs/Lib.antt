@@ -1,0 +1,4 @@
+pub mod Sight
+pub mod Turn
+pub mod Told
+pub mod Stops

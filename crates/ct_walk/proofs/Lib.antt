@@ -1,3 +1,5 @@
 pub mod Steps
 pub mod WalkFacts
 pub mod Runs
+pub mod Ends
+pub mod Pairs

@@ -1,11 +1,11 @@
 -- Single moves and runs of them, said without subtraction; and what two moves leave of one point.
-use Rattle.std.proofs.Common.{ℕ, ◌+◌, ◌≤◌, ◌<◌, ◌≡◌, ◌⊎◌, inl, inr, ⊎_elim, Option, Some, None, List, [], ◌∷◌, length, refl, sym, subst, subst₂, ap, ap₂, ◌∙◌, arith, zero, suc}
+use Rattle.std.proofs.Common.{ℕ, ◌<◌, ◌≡◌, ◌⊎◌, inl, inr, ⊎_elim, Some, List, refl, sym, subst, subst₂, ap, ◌∙◌, arith, zero, suc}
 use Rattle.ct_vectors.specs.Vectors.{add, subtract, scale, zeros, lcm, Divides, Disjoint}
 use Rattle.ct_vectors.proofs.Sums.{length-add_same, length-subtract, length-scale, add_comm, add_assoc, add_right_comm, add_right_cancel, scale-suc, scale-zero}
 use Rattle.ct_vectors.proofs.Divisors.{Divides-add, Divides-lcm, Divides-lcm_right, lcm-divides, length-lcm, lcm-disjoint, add-subtract}
 use Rattle.ct_order.proofs.Order.{below-add_left}
-use Rattle.ct_instance.specs.Instance.{Problem, IsInstance, IsPoint, column_count, width_of, degree_of}
-use Rattle.ct_instance.specs.Fiber.{IsInFiber, IsBelow}
+use Rattle.ct_instance.specs.Instance.{Problem, IsInstance, IsPoint, column_count}
+use Rattle.ct_instance.specs.Fiber.{IsBelow}
 use Rattle.ct_instance.specs.TestSet.{Binomial}
 use Rattle.ct_instance.specs.Walk.{move_at, IsNormal, IsMove, AreMoves, FreeStep, Leads, stay, step}
 use Rattle.ct_instance.proofs.Degree.{degree_of_swap}
@@ -47,10 +47,10 @@ swap_down i ms a p q s =
     let m : IsMove i s.move = move_is i ms a s.number s.move s.at in (
       subst (IsPoint i) (sym s.before) (length-add_same s.rest s.move.head s.wide m.head),
       subst₂ (GoesDown i) (sym s.before) (sym s.after)
-      (record {
-        member = record { point = length-add_same s.rest s.move.tail s.wide m.tail; degree = degree_of_swap i.columns s.rest s.move.head s.move.tail m.degree };
-        below = below-add_left (column_count i) i.cost_rows s.rest s.move.tail s.move.head m.below;
-      }),
+          (record {
+            member = record { point = length-add_same s.rest s.move.tail s.wide m.tail; degree = degree_of_swap i.columns s.rest s.move.head s.move.tail m.degree };
+            below = below-add_left (column_count i) i.cost_rows s.rest s.move.tail s.move.head m.below;
+          }),
     )
 
 pub swap_rank : (i : Problem) → IsInstance i → (ms : List Binomial) → AreMoves i ms → (p q : List ℕ) → IsSwap i ms p q → rank_of i q < rank_of i p

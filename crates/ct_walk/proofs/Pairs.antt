@@ -11,7 +11,7 @@ use Rattle.ct_instance.specs.declared.jobs.Job.{Job}
 use Rattle.ct_instance.specs.declared.jobs.Job.TheVariants.{Generator, Pair}
 use Rattle.ct_instance.specs.Instance.{Problem, IsInstance, IsPoint, IsRight, column_count, degree_of, start_of, unit_of}
 use Rattle.ct_instance.specs.Fiber.{IsInFiber, IsBelow}
-use Rattle.ct_instance.specs.TestSet.{Binomial}
+use Rattle.ct_instance.specs.TestSet.{Binomial, IsTestList}
 use Rattle.ct_instance.specs.Walk.{move_at, first_dividing, IsNormal, AreMoves}
 use Rattle.ct_instance.specs.Jobs.{the_move, IsJob, job_degree_of, first_end_of, second_end_of, IsCoprime}
 use Rattle.ct_instance.proofs.Degree.{degree-add, degree_of_swap, degree-start}
@@ -19,6 +19,7 @@ use Rattle.ct_instance.proofs.Fiber.{rank_of, start_in_fiber, fiber_is_right}
 use Rattle.ct_instance.proofs.TestHeads.{positive_coordinate}
 use Rattle.ct_walk.specs.Laws.{GoesDown, IsWithin, AreJoined, JobsAreJoined, HasOneNormalPoint}
 use Rattle.ct_walk.proofs.Steps.{move_at_within, dividing_gives}
+use Rattle.ct_walk.proofs.WalkFacts.{test_list_moves, test_list_joins}
 use Rattle.ct_walk.proofs.Runs.{IsSwap, Runs, halt, swap, Meet, meet_flip, meet_itself, swap_down, swap_rank, swap_from_divides, run_cases, run_on, run_down, run_from_normal, meet_of_sum, leads_run, IsPeak, pair_end, pair_end_second, peak, coprime_meet}
 use Rattle.ct_walk.proofs.Ends.{the_move_is, the_column_is, column_is_right, unit_in_fiber, ends_in_fiber}
 
@@ -244,3 +245,9 @@ graded_critical_pairs i s ms moves g top joins b right w = one_normal_point i s 
           first = leads_run i ms moves (first_end_of i ms j) joined.point (fibers.0).point joined.first;
           second = leads_run i ms moves (second_end_of i ms j) joined.point (fibers.1).point joined.second;
         }
+
+-- a test list joins each job within its grade
+pub test_list_joins_jobs : (i : Problem) → IsInstance i → (g : ℕ) (top : List ℕ) (ms : List Binomial) → IsTestList i g ms → JobsAreJoined i ms g top
+test_list_joins_jobs i s g top ms t j k u n =
+    let fibers = ends_in_fiber i s ms (test_list_moves i g ms t) j k in
+    test_list_joins i s g ms t (job_degree_of i ms j) (first_end_of i ms j) (second_end_of i ms j) fibers.0 fibers.1 u.grade

@@ -5,15 +5,16 @@ use Rattle.std.proofs.lemmas.List.Elements.{Contains-append_right}
 use Rattle.ct_vectors.specs.Vectors.{total, scale, Divides, IsTimes}
 use Rattle.ct_vectors.proofs.Sums.{scale-one}
 use Rattle.ct_instance.specs.Instance.{Problem, IsInstance, IsPoint, degree_of, grade_of}
-use Rattle.ct_instance.specs.Fiber.{IsInFiber, IsLeast}
+use Rattle.ct_instance.specs.Fiber.{least_of, IsInFiber, IsLeast}
 use Rattle.ct_instance.specs.TestSet.{Binomial, IsTestHead, IsTestMove, IsTestList, ComesBefore}
 use Rattle.ct_instance.specs.Walk.{move_at, first_dividing, IsNormal, moved, IsMove, AreMoves, FreeStep, Leads, stay, step, IsStep, IsWalk, ends, walks, IsWalkEnd}
 use Rattle.ct_instance.proofs.Lists.{Contains-cons_cases, Contains-nil}
 use Rattle.ct_instance.proofs.Degree.{grade-divides}
-use Rattle.ct_instance.proofs.Fiber.{in_own_fiber, rank_of, rank_falls, least_or_improvable, least_not_improvable}
+use Rattle.ct_instance.proofs.Fiber.{is_least_of, in_own_fiber, rank_of, rank_falls, least_or_improvable, least_not_improvable}
 use Rattle.ct_instance.proofs.TestHeads.{has_test_head}
 use Rattle.ct_instance.proofs.Ordered.{InOrder, InOrder-from_pairs}
 use Rattle.ct_instance.proofs.TestList.{test_lists, test_lists_grow, move_of_head, move_is_sound, before_itself}
+use Rattle.ct_walk.specs.Laws.{AreJoined}
 use Rattle.ct_walk.proofs.Steps.{dividing_gives, normal_none, normal_from_none, dividing-append, move_at-append, move_is, times_exist, times_one, head_positive, free_step_down, leads_down}
 
 -- ---- the walk of a point
@@ -190,3 +191,16 @@ walk_least i s g ms t p q e l w =
     let n = move_of_head i g ms t r.0 r.1 small in
     absurd (normal_none ms q (walk_normal ms p q w.steps w.walk) n.0 n.1 (subst (λ (h : List ℕ). Divides h q) (sym n.2) r.2)))
     (least_or_improvable i s q (down.member).point))
+
+-- a point that a test list covers is led to the least point of its fiber
+pub leads_to_least : (i : Problem) → IsInstance i → (g : ℕ) (ms : List Binomial) → IsTestList i g ms → (b p : List ℕ) → IsInFiber i b p → total b ≤ g → Leads ms p (least_of i b)
+leads_to_least i s g ms t b p f l =
+    let small : grade_of i.columns p ≤ g = let e : grade_of i.columns p ≡ total b = ap total f.degree in omega arith in
+    let w = walk_exists i s ms (test_list_moves i g ms t) p f.point in
+    let least : IsLeast i b w.1 =
+    subst (λ (d : List ℕ). IsLeast i d w.1) f.degree (walk_least i s g ms t p w.1 f.point small (record { steps = w.0; walk = w.2 })) in
+    subst (Leads ms p) (is_least_of i s b w.1 least) (walk_leads ms p w.1 w.0 w.2)
+
+-- so two points of one degree are led to one point
+pub test_list_joins : (i : Problem) → IsInstance i → (g : ℕ) (ms : List Binomial) → IsTestList i g ms → (b p q : List ℕ) → IsInFiber i b p → IsInFiber i b q → total b ≤ g → AreJoined ms p q
+test_list_joins i s g ms t b p q f k l = record { point = least_of i b; first = leads_to_least i s g ms t b p f l; second = leads_to_least i s g ms t b q k l }

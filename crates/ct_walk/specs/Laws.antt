@@ -111,3 +111,7 @@ abbrev pub GradedCriticalPairs : Type 0
 GradedCriticalPairs =
     (i : Problem) → IsInstance i → (ms : List Binomial) → AreMoves i ms → (g : ℕ) (top : List ℕ) → JobsAreJoined i ms g top →
     (b : List ℕ) → IsRight i b → IsWithin g top b → HasOneNormalPoint i ms b
+
+-- a test list joins each job within its grade
+abbrev pub TestListJoinsJobs : Type 0
+TestListJoinsJobs = (i : Problem) → IsInstance i → (g : ℕ) (top : List ℕ) (ms : List Binomial) → IsTestList i g ms → JobsAreJoined i ms g top

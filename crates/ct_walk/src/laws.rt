@@ -1,6 +1,6 @@
 //! Laws of steps, walks and critical pairs, as contracts of functions that do nothing.
 
-ghost use Rattle.ct_walk.specs.Laws.{HeadIsPositive, FreeStepsGoDown, LeadsDown, LeadsKeepsSums, CoordinatesStayWithin, StepIsFree, WalkLeads, WalkEndIsNormal, WalkExists, WalkIsOne, WalksStay, WalkEndsAtLeast, TestListHasMoves, EndsHaveJobDegree, GradedCriticalPairs};
+ghost use Rattle.ct_walk.specs.Laws.{HeadIsPositive, FreeStepsGoDown, LeadsDown, LeadsKeepsSums, CoordinatesStayWithin, StepIsFree, WalkLeads, WalkEndIsNormal, WalkExists, WalkIsOne, WalksStay, WalkEndsAtLeast, TestListHasMoves, EndsHaveJobDegree, GradedCriticalPairs, TestListJoinsJobs};
 
 /// Free steps go down within the fiber, and may be taken beside any other point.
 pub fn steps_go_down()
@@ -29,8 +29,10 @@ pub fn walks_stay()
 {}
 
 /// Both ends of a job are points of its degree. Where each job within a grade and a bound that isn't a coprime pair has
-/// its ends led to one point, each fiber within has exactly one point that no head divides, and it is the least.
+/// its ends led to one point, each fiber within has exactly one point that no head divides, and it is the least. A test
+/// list leads them so.
 pub fn graded_critical_pairs()
     ensures ends { EndsHaveJobDegree }
     ensures pairs { GradedCriticalPairs }
+    ensures test_list { TestListJoinsJobs }
 {}

@@ -3,3 +3,4 @@ pub mod WalkFacts
 pub mod Runs
 pub mod Ends
 pub mod Pairs
+pub mod Loops

@@ -4,3 +4,4 @@ pub mod Runs
 pub mod Ends
 pub mod Pairs
 pub mod Loops
+pub mod Openings

@@ -7,4 +7,5 @@ pub mod Ordered
 pub mod TestList
 pub mod Grades
 pub mod Entries
+pub mod JobsList
 mod Worked

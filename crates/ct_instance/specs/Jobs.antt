@@ -1,10 +1,11 @@
 -- The jobs of a list of moves: a generator for each column, and a critical pair for each two moves.
-use Rattle.std.specs.Prelude.{ℕ, ◌+◌, ◌-◌, ◌≤◌, ◌<◌, nat_eq, List, [], ◌++◌, filter, map, length, unwrap_or, slice_get, zero, suc}
+use Rattle.std.specs.Prelude.{ℕ, ◌+◌, ◌-◌, ◌≤◌, ◌<◌, ◌≡◌, ◌⊎◌, nat_eq, List, [], ◌++◌, filter, map, length, unwrap_or, slice_get, zero, suc}
 use Rattle.std.specs.List.{flat_map}
-use Rattle.ct_vectors.specs.Vectors.{add, subtract, lcm, total, Disjoint, up_to}
+use Rattle.ct_vectors.specs.Vectors.{add, subtract, lcm, total, Disjoint}
 use Rattle.ct_instance.specs.declared.jobs.Job.{Job}
 use Rattle.ct_instance.specs.declared.jobs.Job.TheVariants.{Generator, Pair}
 use Rattle.ct_instance.specs.Instance.{Problem, column_count, degree_of, start_of, unit_of}
+use Rattle.ct_instance.specs.Made.{indices}
 use Rattle.ct_instance.specs.TestSet.{Binomial}
 use Rattle.ct_instance.specs.Walk.{move_at}
 
@@ -21,6 +22,14 @@ the_column i (suc j) = unwrap_or (slice_get i.columns j) []
 abbrev pub IsJob : Problem → List Binomial → Job → Type 0
 IsJob i ms (Generator j) = (1 ≤ j) × (j ≤ column_count i)
 IsJob i ms (Pair a b) = (1 ≤ a) × (a < b) × (b ≤ length ms)
+
+-- the order in which the jobs of one grade are taken: generators before pairs, generators by column, pairs by the
+-- smaller number and then by the greater
+abbrev pub JobComesBefore : Job → Job → Type 0
+JobComesBefore (Generator j) (Generator k) = j < k
+JobComesBefore (Generator j) (Pair a b) = Unit {0}
+JobComesBefore (Pair a b) (Generator k) = ⊥
+JobComesBefore (Pair a b) (Pair c d) = (a < c) ⊎ ((a ≡ c) × (b < d))
 
 -- the degree of both its ends
 abbrev pub job_degree_of : Problem → List Binomial → Job → List ℕ
@@ -46,13 +55,9 @@ IsCoprime ms (Pair a b) = Disjoint (the_move ms a).head (the_move ms b).head
 
 -- the numbers from a + 1 to b
 abbrev pub numbers_after : ℕ → ℕ → List ℕ
-numbers_after a b = map (λ k. a + suc k) (below (b - a))
-  where
-    below : ℕ → List ℕ
-    below zero = []
-    below (suc k) = up_to k
+numbers_after a b = map (λ k. a + suc k) (indices (b - a))
 
--- all jobs, generators by column before pairs, pairs by the smaller number and then by the greater
+-- all jobs, in job order
 unfoldable pub all_jobs : Problem → List Binomial → List Job
 all_jobs i ms =
     map Generator (numbers_after 0 (column_count i)) ++ flat_map (λ a. map (Pair a) (numbers_after a (length ms))) (numbers_after 0 (length ms))

@@ -1,11 +1,13 @@
 -- What holds of fibers, answers and test heads. Each statement is the contract of a function in the module `laws`.
-use Rattle.std.specs.Prelude.{ℕ, ℤ, ◌≤◌, ◌≡◌, ◌↔◌, true, List, ◌++◌, Contains}
+use Rattle.std.specs.Prelude.{ℕ, ℤ, ◌≤◌, ◌≡◌, ◌↔◌, true, List, ◌++◌, Contains, AllPairs}
 use Rattle.ct_vectors.specs.Vectors.{zeros, Divides, Disjoint}
 use Rattle.ct_order.specs.Order.{art_total_of}
 use Rattle.ct_instance.specs.Instance.{Problem, IsInstance, IsPoint, IsRight, column_count, degree_of}
 use Rattle.ct_instance.specs.Fiber.{fiber_of, least_of, IsInFiber, IsBelow, IsLeast}
 use Rattle.ct_instance.specs.Answer.{IsSolution, costs_of, optimum, infeasible, answer_of}
 use Rattle.ct_instance.specs.TestSet.{Binomial, IsImprovable, is_improvable, IsTestHead, is_test_head, test_list, IsTestList}
+use Rattle.ct_instance.specs.declared.jobs.Job.{Job}
+use Rattle.ct_instance.specs.Jobs.{IsJob, JobComesBefore, job_grade_of, all_jobs, jobs_at}
 
 -- ---- fibers
 
@@ -83,3 +85,15 @@ TestListIsOne = (i : Problem) → IsInstance i → (g : ℕ) (ms : List Binomial
 -- the test list of a greater grade begins with it
 abbrev pub TestListsGrow : Type 0
 TestListsGrow = (i : Problem) (g h : ℕ) → g ≤ h → (more : List Binomial) × (test_list i h ≡ test_list i g ++ more)
+
+-- ---- jobs
+
+-- the listed jobs are the jobs of the list of moves, each before all later ones
+abbrev pub JobsAreListed : Type 0
+JobsAreListed = (i : Problem) (ms : List Binomial) → ((j : Job) → Contains (all_jobs i ms) j ↔ IsJob i ms j) × AllPairs JobComesBefore (all_jobs i ms)
+
+-- and those of one grade are the jobs of that grade
+abbrev pub JobsOfGradeAreListed : Type 0
+JobsOfGradeAreListed =
+    (i : Problem) (ms : List Binomial) (g : ℕ) →
+    ((j : Job) → Contains (jobs_at i ms g) j ↔ (IsJob i ms j × (job_grade_of i ms j ≡ g))) × AllPairs JobComesBefore (jobs_at i ms g)

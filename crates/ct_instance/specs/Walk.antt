@@ -1,8 +1,20 @@
 -- Steps by a list of moves. Moves are numbered from 1.
-use Rattle.std.specs.Prelude.{ℕ, ◌≤◌, ◌≡◌, cond, Option, Some, None, List, [], ◌∷◌, slice_get, zero, suc}
+use Rattle.std.specs.Prelude.{ℕ, ◌≤◌, ◌≡◌, cond, Option, Some, None, List, [], ◌∷◌, All, slice_get, zero, suc}
 use Rattle.std.specs.Option.{option_map}
 use Rattle.ct_vectors.specs.Vectors.{add, subtract, scale, Divides, divides, IsTimes}
+use Rattle.ct_instance.specs.Instance.{Problem, IsPoint, degree_of}
+use Rattle.ct_instance.specs.Fiber.{IsBelow}
 use Rattle.ct_instance.specs.TestSet.{Binomial}
+
+-- a move of the instance: both ends have one degree, and the tail is below the head
+pub record IsMove (i : Problem) (m : Binomial) : Type 0 where
+  pub head : IsPoint i m.head
+  pub tail : IsPoint i m.tail
+  pub degree : degree_of i.columns m.tail ≡ degree_of i.columns m.head
+  pub below : IsBelow i m.tail m.head
+
+abbrev pub AreMoves : Problem → List Binomial → Type 0
+AreMoves i ms = All (IsMove i) ms
 
 -- the move with this number
 abbrev pub move_at : List Binomial → ℕ → Option Binomial

@@ -1,6 +1,6 @@
 //! Laws of the definitions, as contracts of functions that do nothing.
 
-ghost use Rattle.ct_instance.specs.Laws.{FiberIsListed, LeastPointIsLeast, SolutionsAreInFibers, AnswerIsLeastSolution, AnswerIsShort, ShortHasNoSolution, ImprovableIsTested, TestHeadIsTested, ImprovableAboveTestHead, TestHeadIsMinimal, TestMoveIsDisjoint, TestListIsOne, TestListsGrow};
+ghost use Rattle.ct_instance.specs.Laws.{FiberIsListed, LeastPointIsLeast, SolutionsAreInFibers, AnswerIsLeastSolution, AnswerIsShort, ShortHasNoSolution, ImprovableIsTested, TestHeadIsTested, ImprovableAboveTestHead, TestHeadIsMinimal, TestMoveIsDisjoint, TestListIsOne, TestListsGrow, JobsAreListed, JobsOfGradeAreListed};
 
 /// The listed fiber has exactly the points of its degree, and `least_of` is the one point that is below all others.
 pub fn fiber_has_one_least_point()
@@ -35,4 +35,10 @@ pub fn test_heads_decide()
 pub fn test_list_is_one()
     ensures one { TestListIsOne }
     ensures grows { TestListsGrow }
+{}
+
+/// The listed jobs are all jobs of a list of moves, and those listed for a grade are all of that grade, in job order.
+pub fn jobs_are_listed()
+    ensures all { JobsAreListed }
+    ensures grade { JobsOfGradeAreListed }
 {}

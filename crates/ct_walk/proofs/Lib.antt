@@ -1,0 +1,7 @@
+pub mod Steps
+pub mod WalkFacts
+pub mod Runs
+pub mod Ends
+pub mod Pairs
+pub mod Loops
+pub mod Openings

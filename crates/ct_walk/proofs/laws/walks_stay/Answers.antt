@@ -1,0 +1,11 @@
+use Rattle.ct_walk.proofs.WalkFacts.{test_list_moves, walks_stay, walk_least}
+use Rattle.ct_walk.proofs.laws.walks_stay.Goals as goal
+
+pub returns-clause-moves : goal.returns-clause-moves
+returns-clause-moves c = test_list_moves
+
+pub returns-clause-stays : goal.returns-clause-stays
+returns-clause-stays c = walks_stay
+
+pub returns-clause-least : goal.returns-clause-least
+returns-clause-least c = walk_least

@@ -1,4 +1,15 @@
 //! Moves of an instance, and walks by a list of them.
+//!
+//! A `Move` takes its head away from a point and adds its tail, and so goes down in the refined order within one fiber.
+//! `Moves` is a list of moves of one instance, numbered from 1. The walk of a point takes the first move whose head
+//! fits, as many times as it fits, until none fits (Conti and Traverso 1991, read as Thomas 1995 reads it). `laws` says
+//! what steps and walks do, and has the lemma on critical pairs that makes it enough to look at those of small degree.
 #![tactic(auto)]
 
+mod binomials;
+mod degrees;
+mod faults;
 pub mod laws;
+
+pub use binomials::Move;
+pub use faults::MoveFault;

@@ -1,0 +1,49 @@
+-- Moves within the limit of grades, lists of them, and steps that a caller names.
+use Rattle.std.specs.Prelude.{ℕ, ◌≤◌, ◌<◌, ◌≡◌, Some, List, [], ◌∷◌, All, length}
+use Rattle.ct_vectors.specs.Vectors.{scale, Divides}
+use Rattle.ct_instance.specs.Instance.{Problem, IsInstance, degree_of, grade_of}
+use Rattle.ct_instance.specs.Fiber.{IsBelow}
+use Rattle.ct_instance.specs.TestSet.{Binomial}
+use Rattle.ct_instance.specs.Walk.{IsMove, move_at, moved}
+use Rattle.ct_walk.specs.declared.faults.MoveFault.{MoveFault}
+use Rattle.ct_walk.specs.declared.faults.MoveFault.TheVariants.{Grade, Degree, Order}
+
+-- a move of the instance whose head has at most the greatest grade of a walk
+pub record IsSmallMove (i : Problem) (m : Binomial) : Type 0 where
+  pub move : IsMove i m
+  pub grade : grade_of i.columns m.head ≤ 16000000000000
+
+-- what a list of moves is seen as: the instance whose moves they are, and the moves in order
+pub record MoveList : Type 0 where
+  pub instance : Problem
+  pub moves : List Binomial
+
+pub record IsMoveList (l : MoveList) : Type 0 where
+  pub instance : IsInstance l.instance
+  pub moves : All (IsSmallMove l.instance) l.moves
+  pub most : length l.moves ≤ 4096
+
+-- when each fault of two points comes: the first that holds
+abbrev pub IsFault : Problem → ℕ → List ℕ → List ℕ → MoveFault → Type 0
+IsFault i limit head tail Grade = limit < grade_of i.columns head
+IsFault i limit head tail Degree = (grade_of i.columns head ≤ limit) × (degree_of i.columns tail ≡ degree_of i.columns head → ⊥)
+IsFault i limit head tail Order =
+    (grade_of i.columns head ≤ limit) × (degree_of i.columns tail ≡ degree_of i.columns head) × (IsBelow i tail head → ⊥)
+
+-- what a walk is seen as
+pub record Trace : Type 0 where
+  pub steps : List (ℕ × ℕ)
+  pub end : List ℕ
+
+-- the step with this number and this count applies at p, and gives q
+pub record Applies (ms : List Binomial) (p : List ℕ) (number times : ℕ) (q : List ℕ) : Type 0 where
+  pub move : Binomial
+  pub at : move_at ms number ≡ Some move
+  pub some : 1 ≤ times
+  pub fits : Divides (scale times move.head) p
+  pub gives : q ≡ moved move times p
+
+-- the steps apply in turn, from p to q
+abbrev pub Follows : List Binomial → List ℕ → List (ℕ × ℕ) → List ℕ → Type 0
+Follows ms p [] q = q ≡ p
+Follows ms p (step ∷ steps) q = (r : List ℕ) × Applies ms p step.0 step.1 r × Follows ms r steps q

@@ -5,3 +5,4 @@ pub mod Ends
 pub mod Pairs
 pub mod Loops
 pub mod Openings
+pub mod MoveFacts

@@ -2,10 +2,11 @@
 use Rattle.std.proofs.Common.{ℕ, ◌+◌, ◌<◌, ◌≡◌, Bool, true, false, cond, Option, Some, None, List, [], ◌∷◌, ◌++◌, length, get_or, take, refl, sym, subst, ap, ap₂, ◌∙◌, arith, zero, suc, append_assoc, append-nil, add-one}
 use Rattle.std.specs.Option.{option_map}
 use Rattle.ct_vectors.specs.Vectors.{divides}
-use Rattle.ct_instance.specs.Instance.{Problem, IsInstance, IsPoint}
+use Rattle.ct_instance.specs.Instance.{Problem, IsInstance, IsPoint, grade_of}
 use Rattle.ct_instance.specs.TestSet.{Binomial}
 use Rattle.ct_instance.specs.Walk.{first_dividing, IsNormal, AreMoves, FreeStep, IsStep, IsWalk, ends, walks}
 use Rattle.ct_instance.proofs.Fiber.{rank_of, rank_falls}
+use Rattle.ct_walk.specs.Moves.{MoveList, Follows}
 use Rattle.ct_walk.proofs.Steps.{free_step_down}
 use Rattle.ct_walk.proofs.WalkFacts.{step_is_free}
 
@@ -66,3 +67,20 @@ walked_more ms p q r done number times w s = record {
 
 pub walked_whole : (ms : List Binomial) (p q : List ℕ) (done : List (ℕ × ℕ)) → Walked ms p done q → IsNormal ms q → IsWalk ms p done q
 walked_whole ms p q done w n = subst (λ (x : List (ℕ × ℕ)). IsWalk ms p x q) (append-nil done) (w.on [] q (ends q n))
+
+-- the state of the loop of a walk: the steps done lead on, and the point keeps its width and its grade
+pub record Walking (l : MoveList) (p : List ℕ) (done : List (ℕ × ℕ)) (q : List ℕ) : Type 0 where
+  pub walked : Walked l.moves p done q
+  pub point : IsPoint l.instance q
+  pub grade : grade_of l.instance.columns q ≡ grade_of l.instance.columns p
+
+-- the same where the steps aren't kept
+pub record WalkingOn (l : MoveList) (p q : List ℕ) : Type 0 where
+  pub done : List (ℕ × ℕ)
+  pub walking : Walking l p done q
+
+-- the state of the loop over steps that a caller names
+pub record Following (l : MoveList) (p : List ℕ) (done : List (ℕ × ℕ)) (q : List ℕ) : Type 0 where
+  pub follows : Follows l.moves p done q
+  pub point : IsPoint l.instance q
+  pub grade : grade_of l.instance.columns q ≡ grade_of l.instance.columns p

@@ -1,10 +1,11 @@
 -- Moves within the limit of grades, lists of them, and steps that a caller names.
-use Rattle.std.specs.Prelude.{ℕ, ◌≤◌, ◌<◌, ◌≡◌, Some, List, [], ◌∷◌, All, length}
+use Rattle.std.specs.Prelude.{ℕ, ◌≤◌, ◌<◌, ◌≡◌, Some, List, [], ◌∷◌, All, length, take, slice_get}
 use Rattle.ct_vectors.specs.Vectors.{scale, Divides}
 use Rattle.ct_instance.specs.Instance.{Problem, IsInstance, degree_of, grade_of}
 use Rattle.ct_instance.specs.Fiber.{IsBelow}
 use Rattle.ct_instance.specs.TestSet.{Binomial}
-use Rattle.ct_instance.specs.Walk.{IsMove, move_at, moved}
+use Rattle.ct_instance.specs.Walk.{IsMove, moved}
+use Rattle.ct_instance.specs.Jobs.{the_move}
 use Rattle.ct_walk.specs.declared.faults.MoveFault.{MoveFault}
 use Rattle.ct_walk.specs.declared.faults.MoveFault.TheVariants.{Grade, Degree, Order}
 
@@ -35,15 +36,20 @@ pub record Trace : Type 0 where
   pub steps : List (ℕ × ℕ)
   pub end : List ℕ
 
--- the step with this number and this count applies at p, and gives q
-pub record Applies (ms : List Binomial) (p : List ℕ) (number times : ℕ) (q : List ℕ) : Type 0 where
-  pub move : Binomial
-  pub at : move_at ms number ≡ Some move
+-- the step applies at p: there is such a move, and it fits as often as is said, at least once
+pub record CanApply (ms : List Binomial) (p : List ℕ) (number times : ℕ) : Type 0 where
+  pub number_some : 1 ≤ number
+  pub number_within : number ≤ length ms
   pub some : 1 ≤ times
-  pub fits : Divides (scale times move.head) p
-  pub gives : q ≡ moved move times p
+  pub fits : Divides (scale times (the_move ms number).head) p
 
 -- the steps apply in turn, from p to q
 abbrev pub Follows : List Binomial → List ℕ → List (ℕ × ℕ) → List ℕ → Type 0
 Follows ms p [] q = q ≡ p
-Follows ms p (step ∷ steps) q = (r : List ℕ) × Applies ms p step.0 step.1 r × Follows ms r steps q
+Follows ms p (step ∷ steps) q = CanApply ms p step.0 step.1 × Follows ms (moved (the_move ms step.0) step.1 p) steps q
+
+-- the step with the index k, from 0, is the first that doesn't apply, and the steps before it lead to q
+pub record IsRefused (ms : List Binomial) (p : List ℕ) (steps : List (ℕ × ℕ)) (k : ℕ) (q : List ℕ) : Type 0 where
+  pub within : k < length steps
+  pub before : Follows ms p (take k steps) q
+  pub refused : (number times : ℕ) → slice_get steps k ≡ Some (number, times) → CanApply ms q number times → ⊥

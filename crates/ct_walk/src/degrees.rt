@@ -24,7 +24,13 @@ pub fn have_one_degree(inst: &Instance, head: &Point, tail: &Point) -> bool
     let rows = inst.rows();
     inst.degree_into(head, &mut of_head[..rows]);
     inst.degree_into(tail, &mut of_tail[..rows]);
-    of_tail[..rows] == of_head[..rows]
+    are_equal(&of_tail[..rows], &of_head[..rows])
+}
+
+fn are_equal(p: &[u64], q: &[u64]) -> bool
+    ensures { IsTrue result ↔ (p.now ≡ q.now) }
+{
+    p == q
 }
 
 // Whether p is below q in the refined order.

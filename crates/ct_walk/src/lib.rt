@@ -10,6 +10,12 @@ mod binomials;
 mod degrees;
 mod faults;
 pub mod laws;
+mod move_list;
+mod traces;
+mod walking;
 
 pub use binomials::Move;
 pub use faults::MoveFault;
+pub use move_list::Moves;
+pub use traces::Walk;
+pub use walking::{follow, walk, walk_end};

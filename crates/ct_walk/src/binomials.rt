@@ -1,4 +1,4 @@
-ghost use Rattle.std.specs.Prelude.{◌≡◌, ◌≤◌, length, All, MatchResult};
+ghost use Rattle.std.specs.Prelude.{◌≡◌, ◌≤◌, length, All, IfOk, MatchResult};
 ghost use Rattle.ct_instance.specs.Instance.{IsPoint, grade_of, degree_of};
 ghost use Rattle.ct_instance.specs.Walk.{IsMove};
 ghost use Rattle.ct_walk.specs.Moves.{IsFault};
@@ -7,6 +7,7 @@ use crate::degrees::{have_one_degree, is_below};
 use crate::faults::MoveFault;
 use ct_instance::Instance;
 use ct_point::Point;
+use std::alloc::{AllocError, Global};
 use std::marker::Model;
 
 /// A move: the head is taken away and the tail is added, each as often. Both are points of one instance with one
@@ -60,5 +61,14 @@ impl Move {
         ensures { result.now ≡ self.now.tail }
     {
         &self.tail
+    }
+
+    /// An equal move.
+    pub fn copy(&self, alloc: Global) -> Result<Move, AllocError>
+        ensures { IfOk result (λ m. m ≡ self.now) }
+    {
+        let head = self.head.copy(alloc)?;
+        let tail = self.tail.copy(alloc)?;
+        Ok(Move { head, tail })
     }
 }

@@ -19,3 +19,6 @@ pub use faults::MoveFault;
 pub use move_list::Moves;
 pub use traces::Walk;
 pub use walking::{follow, walk, walk_end};
+
+#[cfg(test)]
+mod tests;

@@ -59,6 +59,20 @@ impl Moves {
         }
     }
 
+    /// A new list: these moves, which are copied, and then more. For want of memory this list is unchanged, and more is
+    /// dropped.
+    pub fn extended(&self, alloc: Global, more: Vec<Move>) -> Result<Moves, AllocError>
+        requires of_instance { All (IsSmallMove self.now.instance) more.items }
+        requires room { length self.now.moves + length more.items ≤ 4096 }
+        ensures { IfOk result (λ l. l ≡ record self.now { moves = self.now.moves ++ more.items }) }
+    {
+        let mut more = more;
+        let mut moves = copies(alloc, &self.moves)?;
+        moves.append(&mut more)?;
+        let inst = Arc::try_clone(&self.inst)?;
+        Ok(Moves { inst, moves })
+    }
+
     /// The instance of the moves.
     pub fn instance(&self) -> &Arc<Instance>
         ensures instance { arc_value result.now ≡ self.now.instance }
@@ -92,6 +106,17 @@ impl Moves {
     {
         scan(&self.moves, p)
     }
+}
+
+// Equal moves in order.
+fn copies(alloc: Global, moves: &[Move]) -> Result<Vec<Move>, AllocError>
+    ensures { IfOk result (λ v. v.items ≡ moves.now) }
+{
+    let mut made = Vec::new(alloc);
+    for mv in moves {
+        made.push(mv.copy(alloc)?)?;
+    }
+    Ok(made)
 }
 
 // The least number, from 1, of a move whose head is at most p.

@@ -20,3 +20,6 @@ pub use instance_text::read_instance;
 pub use print::push_fault;
 pub use script::{Phase, Request, Script};
 pub use sessions::read_sessions;
+
+#[cfg(test)]
+mod tests;

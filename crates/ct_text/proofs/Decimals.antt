@@ -1,12 +1,11 @@
 -- The decimal text of a number is its one spelling.
-use Rattle.std.proofs.Common.{◌≡◌, ◌≢◌, ℕ, zero, suc, ◌+◌, ◌*◌, ◌-◌, ◌<◌, ◌≤◌, ◌^◌, Bool, true, false, cond, eqb, leb, List, [], ◌∷◌, length, get_or, Result, Ok, Err, decimal, refl, sym, ap, subst, ◌∙◌, inl, inr, rules, arith, eq-eqb, lit<}
+use Rattle.std.proofs.Common.{◌≡◌, ℕ, suc, ◌<◌, ◌≤◌, ◌^◌, Bool, true, false, cond, eqb, leb, List, [], ◌∷◌, length, get_or, Ok, Err, decimal, refl, sym, ap, ◌∙◌, inl, inr, rules, arith, eq-eqb, lit<}
 use Rattle.std.specs.List.{list_all}
 use Rattle.std.specs.Char.{is_ascii_digit}
 use Rattle.std.proofs.lemmas.Bool.{cases_lt, le-leb, leb-true}
 use Rattle.std.proofs.lemmas.Bool.Decides.{nat_tests}
 use Rattle.std.proofs.lemmas.Str.Parse.{IsNumeralModel, numerals_by_fold}
 use Rattle.std.proofs.lemmas.Fmt.{decimal_digit, decimal_nonempty, first_decimal, digits_decimal, digits_value-decimal, decimal-digits_value}
-use Rattle.ct_text.specs.declared.number.NumberFault.{NumberFault}
 use Rattle.ct_text.specs.declared.number.NumberFault.TheVariants.{Spelling, Over}
 use Rattle.ct_text.specs.Numbers.{is_natural, value_after, value_of, natural_of}
 

@@ -1,14 +1,12 @@
 -- The tokens of a text are those that stand in it.
-use Rattle.std.proofs.Common.{◌≡◌, ◌≢◌, ℕ, zero, suc, ◌+◌, ◌-◌, ◌<◌, ◌≤◌, Bool, true, false, cond, not, ◌&&◌, ◌||◌, eqb, List, [], ◌∷◌, ◌++◌, length, refl, sym, ap, subst, ◌∙◌, inl, inr, arith, ◌⊎◌, append_assoc, add-zero, add_assoc, eq-eqb}
-use Rattle.std.specs.Prelude.{IsTrue, count_by}
-use Rattle.std.specs.List.{list_all, take_while, prefix_len, sum_by}
-use Rattle.std.proofs.lemmas.Bool.{cases_Bool}
+use Rattle.std.proofs.Common.{◌≡◌, ◌≢◌, ℕ, suc, ◌+◌, Bool, true, false, cond, not, ◌&&◌, ◌||◌, eqb, List, [], ◌∷◌, ◌++◌, length, refl, sym, ap, subst, ◌∙◌, inl, inr, arith, ◌⊎◌, append_assoc, add-zero}
+use Rattle.std.specs.Prelude.{count_by}
+use Rattle.std.specs.List.{list_all, take_while}
 use Rattle.std.proofs.lemmas.Bool.Decides.{nat_tests}
-use Rattle.std.proofs.lemmas.List.Sums.{take_while-cons, sum_by-append, sum_by-cons}
-use Rattle.std.proofs.lemmas.List.{take-append-drop}
+use Rattle.std.proofs.lemmas.List.Sums.{take_while-cons, sum_by-cons}
 use Rattle.ct_text.specs.declared.place.Place.{Place}
 use Rattle.ct_text.specs.Place.{past, place_after}
-use Rattle.ct_text.specs.Tokens.{Lexeme, Mode, between, inside, comment, mode_after, is_plain, is_blank, begins, tokens_in, text_of}
+use Rattle.ct_text.specs.Tokens.{Lexeme, Mode, between, inside, comment, mode_after, is_plain, begins, tokens_in, text_of}
 use Rattle.ct_text.specs.TokenLaw.{is_in_line, AreLines, ends_plain, begins_plain, StandsIn, IsAmong}
 
 -- where reading stands after these bytes

@@ -1,5 +1,5 @@
 -- Reading a number undoes writing it.
-use Rattle.std.specs.Prelude.{◌≡◌, ℕ, ◌^◌, ◌<◌, ◌≤◌, ◌↔◌, List, Result, Ok, decimal}
+use Rattle.std.specs.Prelude.{◌≡◌, ℕ, ◌^◌, ◌<◌, ◌≤◌, ◌↔◌, List, Ok, decimal}
 use Rattle.ct_text.specs.Numbers.{natural_of}
 
 -- a text spells a number exactly where it is the decimal text of that number

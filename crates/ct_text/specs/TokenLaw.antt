@@ -1,7 +1,6 @@
 -- What the tokens of a text are, in terms of its lines.
-use Rattle.std.specs.Prelude.{◌≡◌, ◌≢◌, ℕ, ◌+◌, ◌==◌, ◌||◌, not, Bool, true, false, List, [], ◌∷◌, ◌++◌, length, count_by, IsTrue, ◌↔◌, ◌⊎◌}
+use Rattle.std.specs.Prelude.{◌≡◌, ◌≢◌, ℕ, ◌+◌, ◌==◌, ◌||◌, not, Bool, false, List, [], ◌∷◌, ◌++◌, length, count_by, IsTrue, ◌↔◌, ◌⊎◌}
 use Rattle.std.specs.List.{list_all}
-use Rattle.ct_text.specs.declared.place.Place.{Place}
 use Rattle.ct_text.specs.Tokens.{Lexeme, is_plain, text_of}
 
 -- neither LF nor '#'

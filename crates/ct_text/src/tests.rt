@@ -53,6 +53,6 @@ fn decimal_text(rt: HostRuntime) -> Result<(), Fail> {
     push_natural(&mut out, 0)?;
     push_signed(&mut out, -2)?;
     push_signed(&mut out, 12)?;
-    assert!(rt; out.as_slice() == b"0-212");
+    assert!(rt; out.as_slice() == b"0-212".as_slice());
     Ok(())
 }

@@ -1,0 +1,175 @@
+//! Texts from outside, with the faults that they have.
+
+use crate::{Fault, InputStop, Request, TextReason, push_fault, read_instance, read_sessions};
+use ct_instance::Instance;
+use std::alloc::Global;
+use std::test::Fail;
+
+const COINS: &[u8] = b"instance 1\nrows 1\ncolumns 2\nmatrix\n3 5\ncost 2 3\nend\n";
+
+fn fault_of<T: Drop>(read: Result<T, InputStop>) -> Option<Fault> {
+    match read {
+        Err(InputStop::Fault(fault)) => Some(fault),
+        _ => None,
+    }
+}
+
+fn at(line: u64, column: u64, reason: TextReason) -> Option<Fault> {
+    Some(Fault::Text {
+        line,
+        column,
+        reason,
+    })
+}
+
+fn coins(alloc: Global) -> Result<Instance, Fail> {
+    Ok(
+        read_instance(alloc, COINS)
+            .ok()
+            .ok_or("the coins are an instance")?,
+    )
+}
+
+#[test]
+fn faults_of_instances(rt: HostRuntime) -> Result<(), Fail> {
+    for (text, fault) in [
+        (
+            &b"instance 1 rows 1 columns 2 matrix\n3 0 cost 2 3 end"[..],
+            at(2, 3, TextReason::ZeroColumn),
+        ),
+        (
+            b"instance 1\nrows 1\ncolumns 2\nmatrix\n3",
+            at(5, 2, TextReason::End),
+        ),
+        (b"{\"instance\":1}", at(1, 1, TextReason::Word)),
+        (b"instance 1 rows 17", at(1, 17, TextReason::Limit)),
+        (
+            b"instance 1 rows 1 columns 1 matrix 1000001",
+            at(1, 36, TextReason::Limit),
+        ),
+        (
+            b"instance 1 rows 1 columns 1 matrix 03",
+            at(1, 36, TextReason::Number),
+        ),
+        (
+            b"instance 1 rows 1 columns 1 matrix 3 cost -0 end",
+            at(1, 43, TextReason::Number),
+        ),
+        (
+            b"instance 1 rows 1 columns 1 matrix 3 cost 1 end end",
+            at(1, 49, TextReason::Extra),
+        ),
+    ] {
+        assert!(rt; fault_of(read_instance(rt.alloc(), text)) == fault);
+    }
+    let noted = b"# coins\ninstance 1 rows 1 columns 2 matrix 3 5 cost 2 3 end#";
+    assert_eq!(rt;
+        read_instance(rt.alloc(), noted)
+            .ok()
+            .ok_or("a comment is passed over")?
+            .rows(),
+        1
+    );
+    Ok(())
+}
+
+#[test]
+fn instance_cut_at_each_byte(rt: HostRuntime) -> Result<(), Fail> {
+    for cut in 0..COINS.len() {
+        let whole = read_instance(rt.alloc(), &COINS[..cut]).is_ok();
+        assert_eq!(rt; whole, cut + 1 == COINS.len(), "at {cut}");
+    }
+    Ok(())
+}
+
+#[test]
+fn faults_of_sessions(rt: HostRuntime) -> Result<(), Fail> {
+    let inst = coins(rt.alloc())?;
+    for (text, fault) in [
+        (
+            &b"sessions 1\nphase 0\nsession\nsolve 1000000000001\nend\n"[..],
+            at(4, 7, TextReason::Limit),
+        ),
+        (
+            b"sessions 1\nphase 0\nsession\nsolve\nend\n",
+            at(5, 1, TextReason::Number),
+        ),
+        (
+            b"sessions 1 phase 16000000000001",
+            at(1, 18, TextReason::Limit),
+        ),
+        (b"sessions 1 phase 0 solve", at(1, 20, TextReason::Word)),
+        (b"sessions 1 end", None),
+    ] {
+        assert!(rt; fault_of(read_sessions(rt.alloc(), &inst, text)) == fault);
+    }
+    Ok(())
+}
+
+#[test]
+fn one_too_many(rt: HostRuntime) -> Result<(), Fail> {
+    let inst = coins(rt.alloc())?;
+    for (head, piece, count, columns) in [
+        (&b"sessions 1 "[..], &b"phase 0 "[..], 64u64, 8u64),
+        (b"sessions 1 phase 0 ", b"session ", 16, 8),
+    ] {
+        let mut text = Vec::from_slice(rt.alloc(), head)?;
+        for _ in 0..count {
+            text.extend_from_slice(piece)?;
+        }
+        let full = text.len() as u64;
+        text.extend_from_slice(piece)?;
+        text.extend_from_slice(b"end")?;
+        assert!(rt;
+            fault_of(read_sessions(rt.alloc(), &inst, text.as_slice()))
+                == at(1, full + 1, TextReason::Limit),
+            "after {columns}"
+        );
+    }
+    Ok(())
+}
+
+#[test]
+fn script_of_a_file(rt: HostRuntime) -> Result<(), Fail> {
+    let inst = coins(rt.alloc())?;
+    let script = read_sessions(
+        rt.alloc(),
+        &inst,
+        b"sessions 1 phase 7 session solve 15 ask 7 end",
+    )
+    .ok()
+    .ok_or("a script")?;
+    for phase in script.phases.as_slice() {
+        assert_eq!(rt; phase.target, 7);
+        for session in phase.sessions.as_slice() {
+            assert_eq!(rt; session.as_slice().len(), 2);
+            for request in session.as_slice() {
+                match request {
+                    Request::Solve(b) => assert!(rt; b.as_slice() == [15u64].as_slice()),
+                    Request::Ask(b) => assert!(rt; b.as_slice() == [7u64].as_slice()),
+                }
+            }
+        }
+    }
+    Ok(())
+}
+
+#[test]
+fn texts_of_faults(rt: HostRuntime) -> Result<(), Fail> {
+    for (fault, text) in [
+        (Fault::TooLong, &b"too long"[..]),
+        (
+            Fault::Text {
+                line: 4,
+                column: 17,
+                reason: TextReason::ZeroColumn,
+            },
+            b"line 4 column 17: zero column",
+        ),
+    ] {
+        let mut out = Vec::new(rt.alloc());
+        push_fault(&mut out, &fault)?;
+        assert!(rt; out.as_slice() == text);
+    }
+    Ok(())
+}

@@ -1,0 +1,5 @@
+pub mod Points
+pub mod Files
+pub mod Yields
+pub mod TooLong
+mod Worked

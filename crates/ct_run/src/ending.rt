@@ -1,0 +1,63 @@
+//! How a run ends before it writes.
+ghost use Rattle.std.specs.Prelude.{◌≡◌, All, IfOk};
+ghost use Rattle.ct_run.specs.Ending.{usage, bad_instance, bad_sessions, done};
+ghost use Rattle.ct_run.specs.Reading.{IsScript};
+
+use crate::report::push_report;
+use crate::status::Status;
+use ct_input::{Fault, Script, push_fault};
+use ct_instance::Instance;
+use ct_point::Seq;
+use std::alloc::{AllocError, Global};
+
+/// A status, and the text to be written with it.
+#[derive(Debug, Drop)]
+pub struct Ending {
+    pub status: Status,
+    pub text: Seq<u8>,
+}
+
+pub fn usage_ending(alloc: Global) -> Result<Ending, AllocError>
+    ensures { IfOk result (λ ending. ending ≡ usage) }
+{
+    Ok(Ending {
+        status: Status::Usage,
+        text: Seq::from_vec(Vec::from_slice(alloc, b"usage: ct COMMAND ARGUMENTS\n")?),
+    })
+}
+
+pub fn bad_instance_ending(alloc: Global, fault: &Fault) -> Result<Ending, AllocError>
+    ensures { IfOk result (λ ending. ending ≡ bad_instance fault.now) }
+{
+    let mut text = Vec::from_slice(alloc, b"bad instance: ")?;
+    push_fault(&mut text, fault)?;
+    text.extend_from_slice(b"\n")?;
+    Ok(Ending {
+        status: Status::BadInstance,
+        text: Seq::from_vec(text),
+    })
+}
+
+pub fn bad_sessions_ending(alloc: Global, fault: &Fault) -> Result<Ending, AllocError>
+    ensures { IfOk result (λ ending. ending ≡ bad_sessions fault.now) }
+{
+    let mut text = Vec::from_slice(alloc, b"bad sessions: ")?;
+    push_fault(&mut text, fault)?;
+    text.extend_from_slice(b"\n")?;
+    Ok(Ending {
+        status: Status::BadSessions,
+        text: Seq::from_vec(text),
+    })
+}
+
+pub fn report_ending(alloc: Global, inst: &Instance, script: &Script) -> Result<Ending, AllocError>
+    requires { IsScript inst.now.rows script.now }
+    ensures { IfOk result (λ ending. ending ≡ done inst.now script.now) }
+{
+    let mut text = Vec::new(alloc);
+    push_report(alloc, &mut text, inst, script)?;
+    Ok(Ending {
+        status: Status::Done,
+        text: Seq::from_vec(text),
+    })
+}

@@ -1,0 +1,39 @@
+ghost use Rattle.std.specs.Prelude.{◌≡◌};
+
+/// How a run ended.
+#[derive(Clone, Copy, Debug, PartialEq, Eq)]
+pub enum Status {
+    /// The command's text was written whole.
+    Done,
+    /// The words are no command.
+    Usage,
+    /// The instance file has a fault.
+    BadInstance,
+    /// The session file has a fault.
+    BadSessions,
+    /// A file that the words name could not be read.
+    ReadFault,
+    /// The text or line could not be written whole.
+    WriteFault,
+    /// Memory ran out, and nothing was written.
+    Memory,
+}
+
+impl Status {
+    ghost use Rattle.ct_run.specs.Status.{number_of};
+
+    /// The number with which the program ends.
+    pub fn number(&self) -> u8
+        ensures { result ≡ number_of self.now }
+    {
+        match self {
+            Status::Done => 0,
+            Status::Usage => 2,
+            Status::BadInstance => 3,
+            Status::BadSessions => 4,
+            Status::ReadFault => 5,
+            Status::WriteFault => 6,
+            Status::Memory => 7,
+        }
+    }
+}

@@ -1,0 +1,221 @@
+use super::*;
+use ct_outside::{MemShelf, MemSink};
+use std::alloc::{AllocError, Global};
+use std::test::Fail;
+
+const K: &str = "instance 1\nrows 1\ncolumns 2\nmatrix\n3 5\ncost 2 3\nend\n";
+
+const ZERO: &str = "instance 1\nrows 1\ncolumns 2\nmatrix\n3 0\ncost 2 3\nend\n";
+
+const CUT: &str = "instance 1\nrows 1\ncolumns 2\nmatrix\n3";
+
+const COINS: &str = "# coins\ninstance 1 rows 1 columns 4 matrix 1 5 10 25 cost 1 1 1 1 end";
+
+const TIE: &str = "instance 1 rows 1 columns 2 matrix 1 1 cost 1 1 end";
+
+const GAIN: &str = "instance 1 rows 1 columns 2 matrix 1 1 cost -1 0 end";
+
+const ROWS: &str = "instance 1 rows 2 columns 3 matrix 1 1 0 0 1 1 cost 1 1 1 end";
+
+const EMPTY_ROW: &str = "instance 1 rows 2 columns 1 matrix 1 0 cost 1 end";
+
+const ONE: &str = "sessions 1 phase 0 session solve 15 end";
+
+const REPORT: &str = "report 1\nphase 1\nsession 1\noptimum 9 at 0 3\nend\n";
+
+const USAGE: &str = "usage: ct COMMAND ARGUMENTS\n";
+
+fn words_of(alloc: Global, words: &[&str]) -> Result<Vec<String>, AllocError> {
+    let mut found = Vec::new(alloc);
+    for word in words {
+        found.push(String::from_str(alloc, word)?)?;
+    }
+    Ok(found)
+}
+
+// Whether `answer K S` on these texts ends with this number and writes this text.
+fn ends(
+    alloc: Global,
+    instance: &str,
+    sessions: &str,
+    number: u8,
+    text: &str,
+) -> Result<bool, AllocError> {
+    let words = words_of(alloc, &["answer", "K", "S"])?;
+    let mut shelf = MemShelf::new(alloc);
+    shelf.add(alloc, "K", instance.as_bytes())?;
+    shelf.add(alloc, "S", sessions.as_bytes())?;
+    let mut out = MemSink::new(alloc, 1000, 1_048_576)?;
+    let status = run_plain(alloc, &words, &mut shelf, &mut out);
+    Ok(status.number() == number && out.held() == text.as_bytes())
+}
+
+// Each run: the two texts, the number and what is written.
+#[test]
+fn answers_and_faults_of_texts(rt: HostRuntime) -> Result<(), Fail> {
+    for (row, (instance, sessions, number, text)) in [
+        (K, ONE, 0, REPORT),
+        (
+            K,
+            "sessions 1 phase 1 session solve 7 end",
+            0,
+            "report 1\nphase 1\nsession 1\ninfeasible short 1\nend\n",
+        ),
+        (
+            K,
+            "sessions 1 phase 0 session solve 8 solve 10 ask 0 session end",
+            0,
+            "report 1\nphase 1\nsession 1\noptimum 5 at 1 1\noptimum 6 at 0 2\noptimum 0 at 0 0\nsession 2\nend\n",
+        ),
+        (
+            K,
+            "sessions 1 phase 0 phase 9 session ask 7 session solve 8 end",
+            0,
+            "report 1\nphase 1\nphase 2\nsession 1\ninfeasible short 1\nsession 2\noptimum 5 at 1 1\nend\n",
+        ),
+        (K, "sessions 1 end", 0, "report 1\nend\n"),
+        (
+            TIE,
+            "sessions 1 phase 0 session solve 3 end",
+            0,
+            "report 1\nphase 1\nsession 1\noptimum 3 at 0 3\nend\n",
+        ),
+        (
+            GAIN,
+            "sessions 1 phase 0 session solve 2 end",
+            0,
+            "report 1\nphase 1\nsession 1\noptimum -2 at 2 0\nend\n",
+        ),
+        (
+            ROWS,
+            "sessions 1 phase 0 session solve 2 2 end",
+            0,
+            "report 1\nphase 1\nsession 1\noptimum 2 at 0 2 0\nend\n",
+        ),
+        (
+            COINS,
+            "sessions 1 phase 0 session solve 94 end",
+            0,
+            "report 1\nphase 1\nsession 1\noptimum 9 at 4 1 1 3\nend\n",
+        ),
+        (
+            EMPTY_ROW,
+            "sessions 1 phase 0 session solve 0 3 end",
+            0,
+            "report 1\nphase 1\nsession 1\ninfeasible short 3\nend\n",
+        ),
+        (ZERO, ONE, 3, "bad instance: line 5 column 3: zero column\n"),
+        (CUT, ONE, 3, "bad instance: line 5 column 2: end\n"),
+        (
+            "{\"instance\":1}",
+            ONE,
+            3,
+            "bad instance: line 1 column 1: word\n",
+        ),
+        ("", ONE, 3, "bad instance: line 1 column 1: end\n"),
+        (
+            K,
+            "sessions 1\nphase 0\nsession\nsolve 1000000000001\nend\n",
+            4,
+            "bad sessions: line 4 column 7: limit\n",
+        ),
+        (
+            K,
+            "sessions 1\nphase 0\nsession\nsolve\nend\n",
+            4,
+            "bad sessions: line 5 column 1: number\n",
+        ),
+        (
+            K,
+            "sessions 1 end end",
+            4,
+            "bad sessions: line 1 column 16: extra\n",
+        ),
+    ]
+    .into_iter()
+    .enumerate()
+    {
+        assert!(rt;
+            ends(rt.alloc(), instance, sessions, number, text)?,
+            "row {row}"
+        );
+    }
+    Ok(())
+}
+
+// Words that are no command.
+#[test]
+fn usage_of_other_words(rt: HostRuntime) -> Result<(), Fail> {
+    let alloc = rt.alloc();
+    for words in [
+        &[][..],
+        &["answer"][..],
+        &["answer", "K"][..],
+        &["answer", "K", "S", "K"][..],
+        &["serve", "K", "S"][..],
+        &["answer", "", "S"][..],
+        &["answer", "K", ""][..],
+        &["answer", "-K", "S"][..],
+        &["answer", "K", "--"][..],
+        &["answer", "K", "S", "--walks"][..],
+    ] {
+        let mut shelf = MemShelf::new(alloc);
+        let mut out = MemSink::new(alloc, 1000, 1000)?;
+        let status = run_plain(alloc, &words_of(alloc, words)?, &mut shelf, &mut out);
+        assert!(rt; status == Status::Usage);
+        assert!(rt; out.held() == USAGE.as_bytes());
+    }
+    Ok(())
+}
+
+// Each run: the instance's name, its text, whether there is a session file, the fetch and the write that fail, the
+// number and how many bytes of the report or the line are written.
+#[test]
+fn faults_of_files_and_output(rt: HostRuntime) -> Result<(), Fail> {
+    let alloc = rt.alloc();
+    for (row, (name, instance, has_sessions, fetch, write, number, held)) in [
+        ("-", K, true, 0, 0, 0, 48),
+        ("-", K, false, 0, 0, 5, 0),
+        ("-", ZERO, false, 0, 0, 3, 43),
+        ("K", K, true, 1, 0, 5, 0),
+        ("K", K, true, 2, 0, 5, 0),
+        ("K", K, true, 0, 2, 6, 8),
+        ("K", K, true, 0, 1, 6, 0),
+        ("K", ZERO, true, 2, 2, 6, 8),
+    ]
+    .into_iter()
+    .enumerate()
+    {
+        let words = words_of(alloc, &["answer", name, "S"])?;
+        let mut shelf = MemShelf::new(alloc);
+        shelf.add(alloc, name, instance.as_bytes())?;
+        if has_sessions {
+            shelf.add(alloc, "S", ONE.as_bytes())?;
+        }
+        shelf.fail_at(alloc, fetch)?;
+        let mut out = MemSink::new(alloc, 8, 1_048_576)?;
+        out.fail_at(alloc, write)?;
+        let status = run_plain(alloc, &words, &mut shelf, &mut out);
+        assert!(rt; status.number() == number, "row {row}");
+        assert!(rt; out.held().len() == held, "row {row}");
+    }
+    Ok(())
+}
+
+// The text of K cut off after so many bytes is K only where `end` is whole.
+#[test]
+fn an_instance_cut_at_each_byte(rt: HostRuntime) -> Result<(), Fail> {
+    let alloc = rt.alloc();
+    let words = words_of(alloc, &["answer", "K", "S"])?;
+    for length in 0..K.len() {
+        let mut shelf = MemShelf::new(alloc);
+        shelf.add(alloc, "K", &K.as_bytes()[..length])?;
+        shelf.add(alloc, "S", ONE.as_bytes())?;
+        let mut out = MemSink::new(alloc, 1000, 1000)?;
+        let status = run_plain(alloc, &words, &mut shelf, &mut out);
+        let whole = length + 1 == K.len();
+        assert!(rt; (status == Status::Done) == whole, "{length}");
+        assert!(rt; whole || status == Status::BadInstance, "{length}");
+    }
+    Ok(())
+}

@@ -12,6 +12,8 @@ pub mod laws;
 mod making;
 mod refusals;
 mod sums;
+#[cfg(test)]
+mod tests;
 
 pub use instances::Instance;
 pub use jobs::Job;

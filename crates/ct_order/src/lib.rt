@@ -8,6 +8,8 @@
 mod comparison;
 mod costs;
 pub mod laws;
+#[cfg(test)]
+mod tests;
 
 pub use comparison::{art_total, compare, cost};
 pub use costs::Costs;

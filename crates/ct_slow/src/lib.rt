@@ -2,5 +2,7 @@
 #![tactic(auto)]
 
 mod listing;
+#[cfg(test)]
+mod tests;
 
 pub use listing::least_by_listing;

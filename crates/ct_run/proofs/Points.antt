@@ -6,7 +6,7 @@ use Rattle.ct_vectors.specs.Vectors.{total}
 use Rattle.ct_order.specs.Order.{cost_of, art_total_of}
 use Rattle.ct_instance.specs.Answer.{outcome_of, answer_of, optimum, infeasible}
 use Rattle.ct_instance.specs.Instance.{Problem, IsInstance, IsCostRow, IsRight, IsPoint, column_count, grade_of, degree_of}
-use Rattle.ct_instance.specs.Fiber.{least_of, IsInFiber}
+use Rattle.ct_instance.specs.Fiber.{least_of}
 use Rattle.ct_instance.proofs.Degree.{columns, coordinate-le-grade}
 use Rattle.ct_instance.proofs.Fiber.{least_in_fiber}
 use Rattle.ct_instance.proofs.Grades.{total-limit}

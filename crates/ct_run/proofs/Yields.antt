@@ -1,5 +1,5 @@
 -- What the values are that a grammar can give: the requests of a script are right-hand sides within the limit.
-use Rattle.std.proofs.Common.{◌≡◌, ℕ, zero, suc, ◌+◌, ◌-◌, ◌≤◌, ℤ, Bool, true, false, if◌then◌else◌, List, [], ◌∷◌, All, length, nat_le, nat_lt, Option, Some, None, Result, Ok, Err, refl, sym, ap, subst, arith}
+use Rattle.std.proofs.Common.{◌≡◌, ℕ, zero, suc, ◌-◌, ◌≤◌, ℤ, Bool, true, false, if◌then◌else◌, List, [], ◌∷◌, All, length, nat_le, nat_lt, Option, Some, None, Result, Ok, Err, refl, ap, subst}
 use Rattle.std.proofs.lemmas.Bool.{leb-true}
 use Rattle.std.proofs.lemmas.List.Elements.{All-cons, All-nil}
 use Rattle.ct_text.specs.Tokens.{Lexeme, text_of}
@@ -9,8 +9,6 @@ use Rattle.ct_text.specs.declared.number.NumberFault.TheVariants.{Spelling, Over
 use Rattle.ct_text.specs.Numbers.{is_natural, value_of, natural_of}
 use Rattle.ct_input.specs.declared.fault.Fault.{Fault}
 use Rattle.ct_input.specs.declared.script.Request.{Request}
-use Rattle.ct_input.specs.declared.script.Request.TheVariants.{Ask, Solve}
-use Rattle.ct_input.specs.declared.script.Phase.{Phase}
 use Rattle.ct_input.specs.declared.script.Script.{Script}
 use Rattle.ct_input.specs.Sheet.{Sheet, ◌>>=◌, sheet_of}
 use Rattle.ct_input.specs.Grammar.{Grammar, done, nothing, word, number, signed, fork, barred, part, numbers, upto, if_some, read, token_at, word_in, number_in, number_fault, signed_in, is_next, after_next, nothing_at, barred_at}

@@ -11,8 +11,8 @@ use std::marker::Model;
 
 /// A checked instance: m rows, n columns of m entries each, none of them zero, and a cost for each column.
 ///
-/// It keeps each column as a point (8 bytes an entry where m is above 16, and none else), the sum of each column, and
-/// the costs: 16 bytes a column beside the points.
+/// It keeps each column as a point, which has room for 16 entries in itself whatever m is, and the sum and the cost of
+/// each: about 16 words and two more a column.
 #[derive(Debug, Drop)]
 pub struct Instance {
     rows: usize,
@@ -143,7 +143,8 @@ impl Instance {
         &self.columns[col - 1]
     }
 
-    /// The grade, for a point whose coordinates are within the limit of what may come up: it is below 2^128.
+    /// The grade, for a point whose coordinates are within the limit of what may come up: it is below 2^128. It is
+    /// linear in the width of the point.
     pub fn grade_wide(&self, p: &Point) -> u128
         requires point { IsPoint self.now p.now }
         requires limit { All (λ x. x ≤ 32000000000000) p.now }
@@ -152,7 +153,7 @@ impl Instance {
         wide_grade_by_sums(&self.sums, p.as_slice())
     }
 
-    /// The grade, where it is within the limit.
+    /// The grade, where it is within the limit. It is linear in the width of the point.
     pub fn grade(&self, p: &Point) -> u64
         requires point { IsPoint self.now p.now }
         requires limit { grade_of self.now.columns p.now ≤ 32000000000000 }
@@ -161,7 +162,7 @@ impl Instance {
         grade_by_sums(&self.sums, p.as_slice())
     }
 
-    /// Writes the degree of p, m numbers.
+    /// Writes the degree of p, m numbers, over what stood there. It is linear in m times n.
     pub fn degree_into(&self, p: &Point, out: &mut [u64])
         requires point { IsPoint self.now p.now }
         requires room { length out.old ≡ self.now.rows }

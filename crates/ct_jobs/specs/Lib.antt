@@ -1,0 +1,2 @@
+pub mod GradedJobs
+pub mod Leaves

@@ -1,1 +1,3 @@
 pub mod PairGrades
+pub mod NextGrades
+pub mod Rows

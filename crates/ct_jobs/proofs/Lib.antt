@@ -1,3 +1,5 @@
 pub mod PairGrades
 pub mod NextGrades
 pub mod Rows
+pub mod JobOrder
+pub mod OneGrade

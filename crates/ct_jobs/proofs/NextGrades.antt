@@ -38,17 +38,13 @@ next_grade-append d js ks =
     ap (least_above d) (map-append (λ (j : GradedJob). j.grade) js ks) ∙ least_above-append d (map (λ (j : GradedJob). j.grade) js) (map (λ (j : GradedJob). j.grade) ks)
 
 -- a loop's step over a list
-pub next_grade-take : (d : ℕ) (js : List GradedJob) (k : ℕ) (x : GradedJob) (least : Option ℕ) → k < length js → x ≡ get_or js k x → least ≡ next_grade d (take k js) →
-    lesser_of least (least_above d (x.grade ∷ [])) ≡ next_grade d (take (k + 1) js)
-next_grade-take d js k x least l e f =
-    ap (λ o. lesser_of o (least_above d (x.grade ∷ []))) f ∙ sym (next_grade-append d (take k js) (x ∷ [])) ∙
-    ap (next_grade d) (ap (λ y. take k js ++ y ∷ []) e ∙ sym (take_more js k x l))
+pub next_grade-take : (d : ℕ) (js : List GradedJob) (k : ℕ) (e : GradedJob) (least : Option ℕ) → k < length js → least ≡ next_grade d (take k js) →
+    lesser_of least (least_above d ((get_or js k e).grade ∷ [])) ≡ next_grade d (take (k + 1) js)
+next_grade-take d js k e least l f =
+    ap (λ o. lesser_of o (least_above d ((get_or js k e).grade ∷ []))) f ∙ sym (next_grade-append d (take k js) (get_or js k e ∷ [])) ∙
+    ap (next_grade d) (sym (take_more js k e l))
 
 pub of_grade-append : (g : ℕ) (js ks : List GradedJob) → of_grade g (js ++ ks) ≡ of_grade g js ++ of_grade g ks
 of_grade-append g js ks =
     ap (map (λ (j : GradedJob). j.job)) (filter-append (λ (j : GradedJob). nat_eq j.grade g) js ks) ∙
     map-append (λ (j : GradedJob). j.job) (filter (λ (j : GradedJob). nat_eq j.grade g) js) (filter (λ (j : GradedJob). nat_eq j.grade g) ks)
-
-pub of_grade-take : (g : ℕ) (js : List GradedJob) (k : ℕ) (x : GradedJob) → k < length js → x ≡ get_or js k x → of_grade g (take (k + 1) js) ≡ of_grade g (take k js) ++ of_grade g (x ∷ [])
-of_grade-take g js k x l e =
-    ap (of_grade g) (take_more js k x l ∙ ap (λ y. take k js ++ y ∷ []) (sym e)) ∙ of_grade-append g (take k js) (x ∷ [])

@@ -64,7 +64,7 @@ fn have_coprime_heads(moves: &Moves, i: u32, k: u32) -> bool
     requires { IsJob moves.now.instance moves.now.moves (Job.Pair i k) }
     ensures { IsTrue result ↔ IsCoprime moves.now.moves (Job.Pair i k) }
 {
-    let _count = moves.len();
+    let _instance = moves.instance();
     moves.get(i).head().disjoint(moves.get(k).head())
 }
 
@@ -74,7 +74,7 @@ fn pair_ends(alloc: Global, moves: &Moves, i: u32, k: u32) -> Result<(Point, Poi
     ensures first { IfOk result (λ e. e.0 ≡ first_end_of moves.now.instance moves.now.moves (Job.Pair i k)) }
     ensures second { IfOk result (λ e. e.1 ≡ second_end_of moves.now.instance moves.now.moves (Job.Pair i k)) }
 {
-    let _count = moves.len();
+    let _instance = moves.instance();
     let first = moves.get(i);
     let second = moves.get(k);
     let both = first.head().lcm(alloc, second.head())?;
@@ -103,7 +103,7 @@ pub fn pair_grade(
     requires job { IsJob inst.now moves.now.moves (Job.Pair i k) }
     ensures { IfOk result (λ g. g ≡ job_grade_of inst.now moves.now.moves (Job.Pair i k)) }
 {
-    let _count = moves.len();
+    let _instance = moves.instance();
     let both = moves.get(i).head().lcm(alloc, moves.get(k).head())?;
     Ok(inst.grade(&both))
 }

@@ -11,9 +11,9 @@ grade-requires-clause-point c =
     let l = c.args.moves.now in
     let m = the_move l.moves c.args.i in
     let n = the_move l.moves c.args.k in
-    let a = small_move l c.len-count.ensures.list c.args.i c.requires.job.0 (omega (arith, c.requires.job.1, c.requires.job.2)) in
-    let b = small_move l c.len-count.ensures.list c.args.k (omega (arith, c.requires.job.0, c.requires.job.1)) c.requires.job.2 in
-    let e : c.in_ok-both.both ≡ lcm m.head n.head = c.in_ok-both.ensures ∙ ap₂ lcm (c.head.ensures ∙ ap (λ m. m.head) c.get.ensures) (c.head-2.ensures ∙ ap (λ m. m.head) c.get-2.ensures) in
+    let a = small_move l c.instance-instance.ensures.checked c.args.i c.requires.job.0 (omega (arith, c.requires.job.1, c.requires.job.2)) in
+    let b = small_move l c.instance-instance.ensures.checked c.args.k (omega (arith, c.requires.job.0, c.requires.job.1)) c.requires.job.2 in
+    let e : c.in_ok-both.both ≡ lcm m.head n.head = c.in_ok-both.ensures ∙ ap₂ lcm (c.head.ensures ∙ ap (λ m. m.head) c.get.ensures.at) (c.head-2.ensures ∙ ap (λ m. m.head) c.get-2.ensures.at) in
     subst (λ i. IsPoint i c.in_ok-both.both) c.requires.instance (subst (IsPoint l.instance) (sym e) (lcm_is_point l.instance m n a.move b.move))
 
 pub grade-requires-clause-limit : goal.grade-requires-clause-limit
@@ -21,8 +21,8 @@ grade-requires-clause-limit c =
     let l = c.args.moves.now in
     let m = the_move l.moves c.args.i in
     let n = the_move l.moves c.args.k in
-    let a = small_move l c.len-count.ensures.list c.args.i c.requires.job.0 (omega (arith, c.requires.job.1, c.requires.job.2)) in
-    let b = small_move l c.len-count.ensures.list c.args.k (omega (arith, c.requires.job.0, c.requires.job.1)) c.requires.job.2 in
-    let e : c.in_ok-both.both ≡ lcm m.head n.head = c.in_ok-both.ensures ∙ ap₂ lcm (c.head.ensures ∙ ap (λ m. m.head) c.get.ensures) (c.head-2.ensures ∙ ap (λ m. m.head) c.get-2.ensures) in
+    let a = small_move l c.instance-instance.ensures.checked c.args.i c.requires.job.0 (omega (arith, c.requires.job.1, c.requires.job.2)) in
+    let b = small_move l c.instance-instance.ensures.checked c.args.k (omega (arith, c.requires.job.0, c.requires.job.1)) c.requires.job.2 in
+    let e : c.in_ok-both.both ≡ lcm m.head n.head = c.in_ok-both.ensures ∙ ap₂ lcm (c.head.ensures ∙ ap (λ m. m.head) c.get.ensures.at) (c.head-2.ensures ∙ ap (λ m. m.head) c.get-2.ensures.at) in
     subst (λ i. grade_of i.columns c.in_ok-both.both ≤ 32000000000000) c.requires.instance
     (subst (λ p. grade_of l.instance.columns p ≤ 32000000000000) (sym e) (pair_grade_limit l.instance m n a b))

@@ -3,3 +3,4 @@ pub mod NextGrades
 pub mod Rows
 pub mod JobOrder
 pub mod OneGrade
+pub mod Growing

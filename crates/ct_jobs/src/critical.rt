@@ -31,12 +31,7 @@ pub fn ends(
 
 /// The grade of a job: of a generator the sum of its column, of a pair the grade of the least common multiple of the
 /// heads. It is linear in the width.
-pub fn job_grade(
-    alloc: Global,
-    inst: &Instance,
-    moves: &Moves,
-    job: Job,
-) -> Result<u64, AllocError>
+pub fn job_grade(alloc: Global, inst: &Instance, moves: &Moves, job: Job) -> Result<u64, AllocError>
     requires instance { moves.now.instance ≡ inst.now }
     requires job { IsJob inst.now moves.now.moves job }
     ensures { IfOk result (λ g. g ≡ job_grade_of inst.now moves.now.moves job) }
@@ -78,7 +73,10 @@ fn pair_ends(alloc: Global, moves: &Moves, i: u32, k: u32) -> Result<(Point, Poi
     let first = moves.get(i);
     let second = moves.get(k);
     let both = first.head().lcm(alloc, second.head())?;
-    Ok((left_of(alloc, &both, first)?, left_of(alloc, &both, second)?))
+    Ok((
+        left_of(alloc, &both, first)?,
+        left_of(alloc, &both, second)?,
+    ))
 }
 
 // What a move leaves of a point that its head divides.

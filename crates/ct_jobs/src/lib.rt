@@ -5,9 +5,13 @@ mod addition;
 mod buckets;
 mod critical;
 mod graded;
+pub mod laws;
 mod scans;
 
 pub use addition::Addition;
 pub use buckets::Buckets;
 pub use critical::{coprime, ends, job_grade};
 pub use graded::GradedJob;
+
+#[cfg(test)]
+mod tests;

@@ -1,0 +1,171 @@
+-- The jobs of a list of moves to which moves are added, and the next grade among all jobs.
+use Rattle.std.proofs.Common.{ℕ, ◌+◌, ◌≤◌, ◌<◌, ◌≡◌, ◌⊎◌, inl, inr, ⊎_elim, Bool, true, false, true≢false, not, cond, nat_le, nat_lt, min, Option, Some, None, List, [], ◌∷◌, ◌++◌, map, filter, length, Contains, IsPermutation, refl, sym, ap, ap₂, subst, ◌∙◌, arith, zero, suc, length-append}
+use Rattle.std.proofs.lemmas.Bool.{cases_lt, lt-leb, leb-true, leb-false, ltb-true, ltb-false}
+use Rattle.std.proofs.lemmas.List.{map-append}
+use Rattle.std.proofs.lemmas.List.Sorted.{IsPermutation-filter_both, IsPermutation-map, IsPermutation-append_left, IsPermutation-trans, IsPermutation-sym, Contains-permutation}
+use Rattle.ct_vectors.specs.Vectors.{total, lcm}
+use Rattle.ct_instance.specs.declared.jobs.Job.{Job}
+use Rattle.ct_instance.specs.declared.jobs.Job.TheVariants.{Generator, Pair}
+use Rattle.ct_instance.specs.Instance.{Problem, column_count, grade_of}
+use Rattle.ct_instance.specs.TestSet.{Binomial}
+use Rattle.ct_instance.specs.Jobs.{IsJob, JobComesBefore, the_move, job_grade_of, all_jobs}
+use Rattle.ct_instance.specs.Versions.{least_above}
+use Rattle.ct_instance.proofs.Lists.{Contains-here, Contains-there, Contains-cons_cases, Contains-nil, Contains-map, Contains-filter, filter_gives}
+use Rattle.ct_instance.proofs.Ordered.{InOrder-from_pairs, InOrder-filter, InOrder-unique}
+use Rattle.ct_instance.proofs.JobsList.{jobs_listed, jobs_in_order}
+use Rattle.ct_walk.proofs.Ends.{the_move_is, the_move_at}
+use Rattle.ct_walk.proofs.Steps.{move_at-append}
+use Rattle.ct_jobs.specs.declared.graded.GradedJob.{GradedJob}
+use Rattle.ct_jobs.specs.GradedJobs.{with_grade, graded_jobs, AreJobsOf, is_pair_from, graded_pairs_from, next_grade, lesser_of}
+use Rattle.ct_jobs.proofs.JobOrder.{before_one_way}
+use Rattle.ct_jobs.proofs.NextGrades.{least_above-cons}
+
+-- ---- the order is strict
+
+never_before_itself : (j : Job) → JobComesBefore j j → ⊥
+never_before_itself j h = before_one_way j j h h
+
+before_chain : (x y z : Job) → JobComesBefore x y → JobComesBefore y z → JobComesBefore x z
+before_chain (Generator x) (Generator y) (Generator z) h k = let u : x < y = h in let v : y < z = k in omega arith
+before_chain (Generator x) y (Pair e f) h k = tt
+before_chain (Generator x) (Pair c d) (Generator z) h k = absurd k
+before_chain (Pair a b) (Generator y) z h k = absurd h
+before_chain (Pair a b) (Pair c d) (Generator z) h k = absurd k
+before_chain (Pair a b) (Pair c d) (Pair e f) h k = both h k
+  where
+    both : (a < c) ⊎ ((a ≡ c) × (b < d)) → (c < e) ⊎ ((c ≡ e) × (d < f)) → (a < e) ⊎ ((a ≡ e) × (b < f))
+    both (inl x) (inl y) = inl (omega arith)
+    both (inl x) (inr y) = let s : c ≡ e = y.0 in inl (omega arith)
+    both (inr x) (inl y) = let s : a ≡ c = x.0 in inl (omega arith)
+    both (inr x) (inr y) =
+        let s : a ≡ c = x.0 in let t : c ≡ e = y.0 in let u : b < d = x.1 in let v : d < f = y.1 in inr (omega arith, omega arith)
+
+-- ---- the jobs of the shorter list
+
+abbrev is_old : List Binomial → Job → Bool
+is_old ms j = not (is_pair_from (length ms + 1) j)
+
+not_not : (b : Bool) → b ≡ not (not b)
+not_not true = refl
+not_not false = refl
+
+old_is_job : (i : Problem) (ms ns : List Binomial) (j : Job) → IsJob i (ms ++ ns) j → is_old ms j ≡ true → IsJob i ms j
+old_is_job i ms ns (Generator j) h e = h
+old_is_job i ms ns (Pair a b) h e = (h.0, h.1, last (nat_le (length ms + 1) b) refl e)
+  where
+    last : (t : Bool) → nat_le (length ms + 1) b ≡ t → not t ≡ true → b ≤ length ms
+    last true f g = absurd (true≢false (sym g))
+    last false f g = let l : b < length ms + 1 = leb-false (length ms + 1) b f in omega arith
+
+job_is_old : (i : Problem) (ms ns : List Binomial) (j : Job) → IsJob i ms j → IsJob i (ms ++ ns) j × (is_old ms j ≡ true)
+job_is_old i ms ns (Generator j) h = (h, refl)
+job_is_old i ms ns (Pair a b) h =
+    let l : b ≤ length ms = h.2 in
+    ((h.0, h.1, omega (arith, length-append ms ns)), ap not (lt-leb (length ms + 1) b (omega arith)))
+
+old_jobs : (i : Problem) (ms ns : List Binomial) → filter (is_old ms) (all_jobs i (ms ++ ns)) ≡ all_jobs i ms
+old_jobs i ms ns =
+    InOrder-unique JobComesBefore never_before_itself before_chain (filter (is_old ms) (all_jobs i (ms ++ ns))) (all_jobs i ms)
+    (InOrder-filter JobComesBefore (is_old ms) (all_jobs i (ms ++ ns)) (jobs_in_order i (ms ++ ns))) (jobs_in_order i ms) there back
+  where
+    there : (j : Job) → Contains (filter (is_old ms) (all_jobs i (ms ++ ns))) j → Contains (all_jobs i ms) j
+    there j c =
+        let f = filter_gives (is_old ms) (all_jobs i (ms ++ ns)) j c in
+        (((jobs_listed i ms).0 j).1) (old_is_job i ms ns j ((((jobs_listed i (ms ++ ns)).0 j).0) f.0) f.1)
+
+    back : (j : Job) → Contains (all_jobs i ms) j → Contains (filter (is_old ms) (all_jobs i (ms ++ ns))) j
+    back j c =
+        let f = job_is_old i ms ns j ((((jobs_listed i ms).0 j).0) c) in
+        Contains-filter (is_old ms) (all_jobs i (ms ++ ns)) j ((((jobs_listed i (ms ++ ns)).0 j).1) f.0) f.1
+
+-- ---- their grades stay
+
+the_move_stays : (ms ns : List Binomial) (k : ℕ) → 1 ≤ k → k ≤ length ms → the_move (ms ++ ns) k ≡ the_move ms k
+the_move_stays ms ns k l h = the_move_is (ms ++ ns) k (the_move ms k) (move_at-append ms ns k (the_move ms k) (the_move_at ms k l h))
+
+grade_stays : (i : Problem) (ms ns : List Binomial) (j : Job) → IsJob i ms j → job_grade_of i (ms ++ ns) j ≡ job_grade_of i ms j
+grade_stays i ms ns (Generator j) h = refl
+grade_stays i ms ns (Pair a b) h =
+    let first : 1 ≤ a = h.0 in
+    let between : a < b = h.1 in
+    let last : b ≤ length ms = h.2 in
+    ap₂ (λ (x y : Binomial). grade_of i.columns (lcm x.head y.head)) (the_move_stays ms ns a first (omega arith)) (the_move_stays ms ns b (omega arith) last)
+
+map_same : {X Y : Type 0} (f g : X → Y) (xs : List X) → ((x : X) → Contains xs x → f x ≡ g x) → map f xs ≡ map g xs
+map_same f g [] h = refl
+map_same f g (x ∷ xs) h = ap₂ ◌∷◌ (h x (Contains-here x xs)) (map_same f g xs (λ y c. h y (Contains-there x xs y c)))
+
+graded_stay : (i : Problem) (ms ns : List Binomial) → map (with_grade i (ms ++ ns)) (all_jobs i ms) ≡ graded_jobs i ms
+graded_stay i ms ns =
+    map_same (with_grade i (ms ++ ns)) (with_grade i ms) (all_jobs i ms)
+    (λ j c. ap (λ g. record { grade = g; job = j }) (grade_stays i ms ns j ((((jobs_listed i ms).0 j).0) c)))
+
+pub jobs_grow : (i : Problem) (ms ns : List Binomial) (js : List GradedJob) → AreJobsOf i ms js → AreJobsOf i (ms ++ ns) (js ++ graded_pairs_from i (ms ++ ns) (length ms + 1))
+jobs_grow i ms ns js a =
+    let all : List Job = all_jobs i (ms ++ ns) in
+    let new : List GradedJob = graded_pairs_from i (ms ++ ns) (length ms + 1) in
+    let split : IsPermutation (graded_jobs i (ms ++ ns)) (map (with_grade i (ms ++ ns)) (filter (is_old ms) all ++ filter (is_pair_from (length ms + 1)) all)) =
+    IsPermutation-map (with_grade i (ms ++ ns)) all (filter (is_old ms) all ++ filter (is_pair_from (length ms + 1)) all)
+    (IsPermutation-filter_both (is_old ms) (is_pair_from (length ms + 1)) (λ j. not_not (is_pair_from (length ms + 1) j)) all) in
+    let parts : map (with_grade i (ms ++ ns)) (filter (is_old ms) all ++ filter (is_pair_from (length ms + 1)) all) ≡ graded_jobs i ms ++ new =
+    map-append (with_grade i (ms ++ ns)) (filter (is_old ms) all) (filter (is_pair_from (length ms + 1)) all) ∙
+    ap (λ l. l ++ new) (ap (map (with_grade i (ms ++ ns))) (old_jobs i ms ns) ∙ graded_stay i ms ns) in
+    IsPermutation-trans (graded_jobs i (ms ++ ns)) (graded_jobs i ms ++ new) (js ++ new)
+    (subst (IsPermutation (graded_jobs i (ms ++ ns))) parts split) (IsPermutation-append_left new (graded_jobs i ms) js a)
+
+-- ---- the next grade
+
+-- what the least number above d is, by membership
+abbrev IsNext : ℕ → List ℕ → Option ℕ → Type 0
+IsNext d gs None = (x : ℕ) → Contains gs x → x ≤ d
+IsNext d gs (Some g) = Contains gs g × (d < g) × ((x : ℕ) → Contains gs x → d < x → g ≤ x)
+
+one_above : (d g : ℕ) → nat_lt d g ≡ true → least_above d (g ∷ []) ≡ Some g
+one_above d g e = simp e
+
+one_not_above : (d g : ℕ) → nat_lt d g ≡ false → least_above d (g ∷ []) ≡ None
+one_not_above d g e = simp e
+
+next_more : (d g : ℕ) (gs : List ℕ) → d < g → (o : Option ℕ) → IsNext d gs o → IsNext d (g ∷ gs) (lesser_of (Some g) o)
+next_more d g gs l None n =
+    (Contains-here g gs, l, λ x c k. ⊎_elim (λ s. omega (arith, s)) (λ f. absurd (let h : x ≤ d = n x f in omega arith)) (Contains-cons_cases g gs x c))
+next_more d g gs l (Some h) n =
+    let above : d < h = n.1 in (
+      ⊎_elim (λ k. subst (Contains (g ∷ gs)) (let e : g ≡ min g h = omega arith in e) (Contains-here g gs))
+          (λ k. subst (Contains (g ∷ gs)) (let e : h ≡ min g h = omega arith in e) (Contains-there g gs h n.0)) (cases_lt g h),
+      omega arith,
+      λ x c k. ⊎_elim (λ s. omega (arith, s)) (λ f. let b : h ≤ x = n.2 x f k in omega arith) (Contains-cons_cases g gs x c),
+    )
+
+next_skips : (d g : ℕ) (gs : List ℕ) → g ≤ d → (o : Option ℕ) → IsNext d gs o → IsNext d (g ∷ gs) o
+next_skips d g gs l None n = λ x c. ⊎_elim (λ s. omega (arith, s)) (n x) (Contains-cons_cases g gs x c)
+next_skips d g gs l (Some h) n =
+    (Contains-there g gs h n.0, n.1, λ x c k. ⊎_elim (λ s. absurd (omega (arith, s))) (λ f. n.2 x f k) (Contains-cons_cases g gs x c))
+
+next_is : (d : ℕ) (gs : List ℕ) → IsNext d gs (least_above d gs)
+next_is d [] = λ x c. absurd (Contains-nil x c)
+next_is d (g ∷ gs) = subst (IsNext d (g ∷ gs)) (sym (least_above-cons d g gs)) (more (nat_lt d g) refl (next_is d gs))
+  where
+    more : (b : Bool) → nat_lt d g ≡ b → IsNext d gs (least_above d gs) → IsNext d (g ∷ gs) (lesser_of (least_above d (g ∷ [])) (least_above d gs))
+    more true e n = subst (λ o. IsNext d (g ∷ gs) (lesser_of o (least_above d gs))) (sym (one_above d g e)) (next_more d g gs (ltb-true d g e) (least_above d gs) n)
+    more false e n = subst (λ o. IsNext d (g ∷ gs) (lesser_of o (least_above d gs))) (sym (one_not_above d g e)) (next_skips d g gs (ltb-false d g e) (least_above d gs) n)
+
+next_is_one : (d : ℕ) (gs hs : List ℕ) (a b : Option ℕ) → ((x : ℕ) → Contains gs x → Contains hs x) → ((x : ℕ) → Contains hs x → Contains gs x) → IsNext d gs a → IsNext d hs b → a ≡ b
+next_is_one d gs hs None None f g m n = refl
+next_is_one d gs hs None (Some y) f g m n = let l : d < y = n.1 in let h : y ≤ d = m y (g y n.0) in absurd (omega arith)
+next_is_one d gs hs (Some x) None f g m n = let l : d < x = m.1 in let h : x ≤ d = n x (f x m.0) in absurd (omega arith)
+next_is_one d gs hs (Some x) (Some y) f g m n =
+    let h : x ≤ y = m.2 y (g y n.0) n.1 in let k : y ≤ x = n.2 x (f x m.0) m.1 in ap Some (omega arith)
+
+pub next_grade_of_all : (i : Problem) (ms : List Binomial) (js : List GradedJob) (d : ℕ) → AreJobsOf i ms js → next_grade d js ≡ least_above d (map (job_grade_of i ms) (all_jobs i ms))
+next_grade_of_all i ms js d a =
+    let grades : IsPermutation (map (λ (j : GradedJob). j.grade) (graded_jobs i ms)) (map (λ (j : GradedJob). j.grade) js) = IsPermutation-map (λ (j : GradedJob). j.grade) (graded_jobs i ms) js a in
+    next_is_one d (map (λ (j : GradedJob). j.grade) js) (map (λ (j : GradedJob). j.grade) (graded_jobs i ms)) (next_grade d js) (next_grade d (graded_jobs i ms))
+    (λ x. Contains-permutation (map (λ (j : GradedJob). j.grade) js) (map (λ (j : GradedJob). j.grade) (graded_jobs i ms)) x (IsPermutation-sym (map (λ (j : GradedJob). j.grade) (graded_jobs i ms)) (map (λ (j : GradedJob). j.grade) js) grades))
+    (λ x. Contains-permutation (map (λ (j : GradedJob). j.grade) (graded_jobs i ms)) (map (λ (j : GradedJob). j.grade) js) x grades)
+    (next_is d (map (λ (j : GradedJob). j.grade) js)) (next_is d (map (λ (j : GradedJob). j.grade) (graded_jobs i ms))) ∙
+    ap (least_above d) (grades_of (all_jobs i ms))
+  where
+    grades_of : (l : List Job) → map (λ (j : GradedJob). j.grade) (map (with_grade i ms) l) ≡ map (job_grade_of i ms) l
+    grades_of [] = refl
+    grades_of (j ∷ l) = ap (λ r. job_grade_of i ms j ∷ r) (grades_of l)

@@ -1,0 +1,6 @@
+pub mod PairGrades
+pub mod NextGrades
+pub mod Rows
+pub mod JobOrder
+pub mod OneGrade
+pub mod Growing

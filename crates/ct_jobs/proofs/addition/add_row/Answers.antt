@@ -1,0 +1,35 @@
+use Rattle.std.proofs.Common.{ℕ, ◌≡◌, ◌≤◌, ◌<◌, ◌+◌, ◌-◌, ◌++◌, ◌∷◌, [], map, max, length, sym, ap, ap₂, subst, ◌∙◌, arith, append_assoc}
+use Rattle.std.proofs.lemmas.List.{map-append}
+use Rattle.ct_instance.specs.declared.jobs.Job.TheVariants.{Pair}
+use Rattle.ct_instance.specs.Jobs.{job_grade_of}
+use Rattle.ct_jobs.specs.GradedJobs.{with_grade, row_from}
+use Rattle.ct_jobs.proofs.Rows.{row_push, row_end}
+use Rattle.ct_jobs.proofs.addition.add_row.Goals as goal
+
+pub loop-k-preserved : goal.loop-k-preserved
+loop-k-preserved c =
+    let i = c.args.inst.now in
+    let ms = c.args.moves.now.moves in
+    let from : ℕ = c.args.from in
+    let a : ℕ = c.args.i in
+    let k : ℕ = c.loop-k.k in
+    let old = c.args.pairs.now.items in
+    let low : max a (from - 1) ≤ k = omega arith in
+    record {
+      pairs = c.in_ok-push.ensures.items ∙
+          ap₂ (λ l g. l ++ record { grade = g; job = Pair a (k + 1) } ∷ []) c.loop-k.invariant.pairs c.in_ok-grade.ensures ∙
+          append_assoc old (map (with_grade i ms) (row_from from a k)) (with_grade i ms (Pair a (k + 1)) ∷ []) ∙
+          ap (λ l. old ++ l) (sym (map-append (with_grade i ms) (row_from from a k) (Pair a (k + 1) ∷ [])) ∙ ap (map (with_grade i ms)) (sym (row_push from a k low)));
+      start = λ h. absurd (let l : k < length ms = omega arith in omega arith);
+    }
+
+pub returns : goal.returns
+returns c =
+    let i = c.args.inst.now in
+    let ms = c.args.moves.now.moves in
+    let from : ℕ = c.args.from in
+    let a : ℕ = c.args.i in
+    let k : ℕ = c.loop-k.k in
+    let low : max a (from - 1) ≤ k = omega arith in
+    c.loop-k.invariant.pairs ∙
+    ap (λ l. c.args.pairs.now.items ++ map (with_grade i ms) l) (row_end from a k (length ms) low (λ h. omega arith) (omega arith) (λ h. c.loop-k.invariant.start (omega arith)))

@@ -1,0 +1,23 @@
+use Rattle.std.proofs.Common.{◌≡◌, ◌+◌, ◌++◌, ◌∷◌, [], IsPermutation, map, sym, ap, ap₂, subst, ◌∙◌, append-nil, arith, refl}
+use Rattle.std.proofs.lemmas.List.Sorted.{IsPermutation-refl}
+use Rattle.ct_instance.specs.declared.jobs.Job.TheVariants.{Generator}
+use Rattle.ct_instance.specs.Instance.{column_count}
+use Rattle.ct_instance.specs.Jobs.{numbers_after}
+use Rattle.ct_jobs.specs.GradedJobs.{with_grade, graded_jobs}
+use Rattle.ct_jobs.proofs.Rows.{generators_push, generators_all}
+use Rattle.ct_jobs.proofs.buckets.Buckets.new.Goals as goal
+
+pub loop-j-preserved : goal.loop-j-preserved
+loop-j-preserved c =
+    let i = c.args.inst.now in
+    c.in_ok-push.ensures.items ∙ ap₂ (λ l g. l ++ record { grade = g; job = Generator (c.loop-j.j + 1) } ∷ []) c.loop-j.invariant c.column_grade.ensures ∙
+    sym (generators_push i [] c.loop-j.j)
+
+pub returns : goal.returns
+returns c =
+    let i = c.args.inst.now in
+    let e : c.loop-j.j ≡ column_count i = omega arith in
+    let f : graded_jobs i [] ≡ c.loop-j.merged.items ++ c.new.result.items =
+    generators_all i ∙ ap (λ n. map (with_grade i []) (map Generator (numbers_after 0 n))) (sym e) ∙ sym c.loop-j.invariant ∙
+    sym (ap (λ l. c.loop-j.merged.items ++ l) c.new.ensures.items ∙ append-nil c.loop-j.merged.items) in
+    subst (IsPermutation (graded_jobs i [])) f (IsPermutation-refl (graded_jobs i []))

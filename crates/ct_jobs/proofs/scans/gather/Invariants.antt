@@ -1,0 +1,6 @@
+use Rattle.std.proofs.Common.{◌≡◌, ◌++◌, take}
+use Rattle.ct_jobs.specs.GradedJobs.{of_grade}
+use Rattle.ct_jobs.proofs.scans.gather.Given as goal
+
+abbrev pub invariant-loop-entry : goal.invariant-loop-entry
+invariant-loop-entry l = l.out.items ≡ l.initial.out.items ++ of_grade l.grade (take l.entry-index l.jobs)

@@ -1,0 +1,3 @@
+pub mod GradedJobs
+pub mod Leaves
+pub mod Laws

@@ -1,17 +1,17 @@
 -- The jobs of a list of moves to which moves are added, and the next grade among all jobs.
-use Rattle.std.proofs.Common.{ℕ, ◌+◌, ◌≤◌, ◌<◌, ◌≡◌, ◌⊎◌, inl, inr, ⊎_elim, Bool, true, false, true≢false, not, cond, nat_le, nat_lt, min, Option, Some, None, List, [], ◌∷◌, ◌++◌, map, filter, length, Contains, IsPermutation, refl, sym, ap, ap₂, subst, ◌∙◌, arith, zero, suc, length-append}
-use Rattle.std.proofs.lemmas.Bool.{cases_lt, lt-leb, leb-true, leb-false, ltb-true, ltb-false}
+use Rattle.std.proofs.Common.{ℕ, ◌+◌, ◌≤◌, ◌<◌, ◌≡◌, ◌⊎◌, inl, inr, ⊎_elim, Bool, true, false, true≢false, not, nat_le, nat_lt, min, Option, Some, None, List, [], ◌∷◌, ◌++◌, map, filter, length, Contains, IsPermutation, refl, sym, ap, ap₂, subst, ◌∙◌, arith, length-append}
+use Rattle.std.proofs.lemmas.Bool.{cases_lt, lt-leb, leb-false, ltb-true, ltb-false}
 use Rattle.std.proofs.lemmas.List.{map-append}
 use Rattle.std.proofs.lemmas.List.Sorted.{IsPermutation-filter_both, IsPermutation-map, IsPermutation-append_left, IsPermutation-trans, IsPermutation-sym, Contains-permutation}
-use Rattle.ct_vectors.specs.Vectors.{total, lcm}
+use Rattle.ct_vectors.specs.Vectors.{lcm}
 use Rattle.ct_instance.specs.declared.jobs.Job.{Job}
 use Rattle.ct_instance.specs.declared.jobs.Job.TheVariants.{Generator, Pair}
-use Rattle.ct_instance.specs.Instance.{Problem, column_count, grade_of}
+use Rattle.ct_instance.specs.Instance.{Problem, grade_of}
 use Rattle.ct_instance.specs.TestSet.{Binomial}
 use Rattle.ct_instance.specs.Jobs.{IsJob, JobComesBefore, the_move, job_grade_of, all_jobs}
 use Rattle.ct_instance.specs.Versions.{least_above}
-use Rattle.ct_instance.proofs.Lists.{Contains-here, Contains-there, Contains-cons_cases, Contains-nil, Contains-map, Contains-filter, filter_gives}
-use Rattle.ct_instance.proofs.Ordered.{InOrder-from_pairs, InOrder-filter, InOrder-unique}
+use Rattle.ct_instance.proofs.Lists.{Contains-here, Contains-there, Contains-cons_cases, Contains-nil, Contains-filter, filter_gives}
+use Rattle.ct_instance.proofs.Ordered.{InOrder-filter, InOrder-unique}
 use Rattle.ct_instance.proofs.JobsList.{jobs_listed, jobs_in_order}
 use Rattle.ct_walk.proofs.Ends.{the_move_is, the_move_at}
 use Rattle.ct_walk.proofs.Steps.{move_at-append}

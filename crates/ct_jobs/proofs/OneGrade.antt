@@ -1,5 +1,5 @@
 -- The jobs of one grade among all jobs of a list of moves.
-use Rattle.std.proofs.Common.{ℕ, ◌+◌, ◌≡◌, Bool, true, false, cond, nat_eq, List, [], ◌∷◌, map, filter, AllPairs, IsPermutation, sum_by, refl, sym, ap, ap₂, ◌∙◌, arith}
+use Rattle.std.proofs.Common.{ℕ, ◌+◌, ◌≡◌, Bool, true, false, cond, nat_eq, List, [], ◌∷◌, map, filter, IsPermutation, sum_by, refl, sym, ap, ap₂, ◌∙◌, arith}
 use Rattle.std.proofs.lemmas.List.Sums.{sum_by-cons}
 use Rattle.std.proofs.lemmas.List.Sorted.{sum_by-IsPermutation}
 use Rattle.ct_instance.specs.declared.jobs.Job.{Job}

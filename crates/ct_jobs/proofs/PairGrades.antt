@@ -1,17 +1,15 @@
 -- Bounds on the grade of a pair and on the coordinates of its ends.
-use Rattle.std.proofs.Common.{ℕ, ◌+◌, ◌*◌, ◌≤◌, ◌<◌, ◌≡◌, ◌^◌, max, List, [], length, get_or, All, sym, ap, subst, ◌∙◌, arith, sum, refl, Bool, true, ◌↔◌, IsTrue, ap₂, zero, suc}
+use Rattle.std.proofs.Common.{ℕ, ◌+◌, ◌*◌, ◌≤◌, ◌<◌, ◌≡◌, List, [], length, get_or, sym, ap, subst, ◌∙◌, arith, refl, Bool, ◌↔◌, IsTrue, ap₂, zero, suc}
 use Rattle.std.proofs.lemmas.List.Elements.{All-get_or}
 use Rattle.std.proofs.lemmas.List.{get_or_default}
 use Rattle.ct_vectors.specs.Vectors.{total, add, subtract, scale, lcm, Divides, Disjoint, disjoint}
-use Rattle.ct_vectors.proofs.Sums.{length-add_same, scale-one, total_is_sum}
+use Rattle.ct_vectors.proofs.Sums.{length-add_same, scale-one}
 use Rattle.ct_vectors.proofs.Divisors.{Divides-add, Divides-add_left, Divides-lcm, Divides-lcm_right, lcm-divides, length-lcm, Disjoint-from_test, test_from_Disjoint}
-use Rattle.ct_instance.specs.declared.jobs.Job.{Job}
-use Rattle.ct_instance.specs.declared.jobs.Job.TheVariants.{Generator, Pair}
 use Rattle.ct_instance.specs.Instance.{Problem, IsColumn, IsInstance, IsPoint, column_count, degree_of, grade_of}
 use Rattle.ct_instance.specs.TestSet.{Binomial}
 use Rattle.ct_instance.specs.Walk.{IsMove, AreMoves}
 use Rattle.ct_instance.specs.Fiber.{IsInFiber}
-use Rattle.ct_instance.specs.Jobs.{IsJob, the_move, the_column, job_degree_of, job_grade_of, first_end_of, second_end_of}
+use Rattle.ct_instance.specs.Jobs.{the_move, the_column}
 use Rattle.ct_instance.proofs.Degree.{columns, grade-add, grade-divides, coordinate-le-grade}
 use Rattle.ct_instance.proofs.Grades.{total-limit}
 use Rattle.ct_walk.specs.Moves.{MoveList, IsMoveList, IsSmallMove}

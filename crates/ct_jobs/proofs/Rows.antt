@@ -1,16 +1,14 @@
 -- The loops that list generators and pairs, against the list of all jobs.
-use Rattle.std.proofs.Common.{ℕ, ◌+◌, ◌-◌, ◌≤◌, ◌<◌, ◌≡◌, max, ⊎_elim, Bool, true, false, cond, nat_le, List, [], ◌∷◌, ◌++◌, map, filter, flat_map, length, refl, sym, ap, ap₂, subst, ◌∙◌, arith, zero, suc, append-nil}
+use Rattle.std.proofs.Common.{ℕ, ◌+◌, ◌-◌, ◌≤◌, ◌<◌, ◌≡◌, max, ⊎_elim, cond, nat_le, List, [], ◌∷◌, ◌++◌, map, filter, flat_map, length, refl, sym, ap, ap₂, ◌∙◌, arith, zero, suc, append-nil}
 use Rattle.std.proofs.lemmas.Bool.{cases_lt, lt-leb, le-leb}
 use Rattle.std.proofs.lemmas.List.{map-append}
 use Rattle.std.proofs.lemmas.List.Elements.{filter-append}
 use Rattle.std.proofs.lemmas.Grind.{flat_map-append}
-use Rattle.ct_instance.specs.declared.jobs.Job.{Job}
 use Rattle.ct_instance.specs.declared.jobs.Job.TheVariants.{Generator, Pair}
 use Rattle.ct_instance.specs.Instance.{Problem, column_count}
 use Rattle.ct_instance.specs.Made.{indices}
 use Rattle.ct_instance.specs.TestSet.{Binomial}
 use Rattle.ct_instance.specs.Jobs.{numbers_after, all_jobs}
-use Rattle.ct_jobs.specs.declared.graded.GradedJob.{GradedJob}
 use Rattle.ct_jobs.specs.GradedJobs.{with_grade, graded_jobs, is_pair_from, graded_pairs_from, row_from}
 
 -- ---- numbers

@@ -1,5 +1,5 @@
 -- Jobs with their grades: all of them for a list of moves, those of one grade, and the next grade.
-use Rattle.std.specs.Prelude.{ℕ, ◌≤◌, ◌<◌, ◌≡◌, Bool, false, nat_eq, nat_le, Option, Some, None, min, max, ◌-◌, List, [], ◌∷◌, map, filter, length, AllPairs, IsPermutation}
+use Rattle.std.specs.Prelude.{ℕ, Bool, false, nat_eq, nat_le, Option, Some, None, min, max, ◌-◌, List, [], ◌∷◌, map, filter, AllPairs, IsPermutation}
 use Rattle.ct_instance.specs.declared.jobs.Job.{Job}
 use Rattle.ct_instance.specs.declared.jobs.Job.TheVariants.{Generator, Pair}
 use Rattle.ct_instance.specs.Instance.{Problem}

@@ -10,7 +10,10 @@ use ct_walk::Moves;
 use std::alloc::{AllocError, Global};
 use std::marker::Model;
 
-/// The jobs of a list of moves, by grade.
+/// The jobs of a list of moves, with their grades.
+///
+/// It keeps the jobs in one list and the last addition beside it, 24 bytes a job. `next_with` and `jobs_with` are linear
+/// in the number of jobs.
 #[derive(Debug, Drop)]
 pub struct Buckets {
     merged: Vec<GradedJob>,
@@ -70,7 +73,8 @@ impl Buckets {
         if self.parked.is_empty() { 1 } else { 0 }
     }
 
-    /// Makes room for one addition. The jobs stay as they are, also where memory is refused.
+    /// Makes room for one addition, by taking the last one into the list. The jobs stay as they are, also where memory is
+    /// refused. It is linear in the last addition while the list has room, and copies the list where it has to grow.
     pub fn reserve(&mut self) -> Result<(), AllocError>
         ensures jobs { IsPermutation self.old.jobs self.new.jobs }
         ensures room { OnOk result (1 ≤ self.new.spare) }
@@ -100,7 +104,7 @@ impl Buckets {
         lesser(here, next_among(more.as_slice(), above))
     }
 
-    /// The jobs of one grade, among the jobs and those of an addition, in job order.
+    /// The jobs of one grade, among the jobs and those of an addition, in job order. It sorts those jobs.
     pub fn jobs_with(
         &self,
         alloc: Global,

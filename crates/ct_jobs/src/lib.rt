@@ -1,4 +1,9 @@
 //! The jobs of a list of moves, by grade: a generator for each column, and a critical pair for each two moves.
+//!
+//! `Buckets` holds the jobs of a list of moves as that grows. `prepare` lists the pairs with new moves, with their
+//! grades; `reserve` makes room for them, and then `absorb` takes them in and can't fail. Before that an addition may
+//! stand beside the buckets: `next_with` and `jobs_with` look at both. `ends`, `job_grade` and `coprime` say what a
+//! job is about. `laws` ties the lists of graded jobs to the list of all jobs, from which the contracts speak.
 #![tactic(auto)]
 
 mod addition;

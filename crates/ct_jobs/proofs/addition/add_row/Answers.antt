@@ -1,7 +1,6 @@
-use Rattle.std.proofs.Common.{ℕ, ◌≡◌, ◌≤◌, ◌<◌, ◌+◌, ◌-◌, ◌++◌, ◌∷◌, [], map, max, length, sym, ap, ap₂, subst, ◌∙◌, arith, append_assoc}
+use Rattle.std.proofs.Common.{ℕ, ◌≤◌, ◌<◌, ◌+◌, ◌-◌, ◌++◌, ◌∷◌, [], map, max, length, sym, ap, ap₂, ◌∙◌, arith, append_assoc}
 use Rattle.std.proofs.lemmas.List.{map-append}
 use Rattle.ct_instance.specs.declared.jobs.Job.TheVariants.{Pair}
-use Rattle.ct_instance.specs.Jobs.{job_grade_of}
 use Rattle.ct_jobs.specs.GradedJobs.{with_grade, row_from}
 use Rattle.ct_jobs.proofs.Rows.{row_push, row_end}
 use Rattle.ct_jobs.proofs.addition.add_row.Goals as goal

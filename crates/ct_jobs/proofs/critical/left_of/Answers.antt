@@ -1,4 +1,4 @@
-use Rattle.std.proofs.Common.{ℕ, List, ◌<◌, ◌^◌, ◌≡◌, All, ap, ap₂, ◌∙◌, sym, subst}
+use Rattle.std.proofs.Common.{◌<◌, ◌^◌, ◌≡◌, All, ap₂, ◌∙◌, sym, subst}
 use Rattle.ct_vectors.specs.Vectors.{add, subtract, scale, Divides}
 use Rattle.ct_vectors.proofs.Sums.{scale-one}
 use Rattle.ct_jobs.proofs.PairGrades.{left_once}

@@ -1,8 +1,7 @@
-use Rattle.std.proofs.Common.{ap, ap₂, ◌∙◌, ◌≡◌, ◌≤◌, sym, subst, List, ℕ, arith, length}
+use Rattle.std.proofs.Common.{ap, ap₂, ◌∙◌, ◌≡◌, ◌≤◌, sym, subst, arith}
 use Rattle.ct_vectors.specs.Vectors.{lcm}
 use Rattle.ct_instance.specs.Instance.{IsPoint, grade_of}
 use Rattle.ct_instance.specs.Jobs.{the_move}
-use Rattle.ct_walk.specs.Moves.{IsSmallMove}
 use Rattle.ct_jobs.proofs.PairGrades.{small_move, lcm_is_point, pair_grade_limit}
 use Rattle.ct_jobs.proofs.critical.pair_grade.Goals as goal
 

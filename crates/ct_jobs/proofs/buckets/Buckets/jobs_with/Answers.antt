@@ -1,4 +1,4 @@
-use Rattle.std.proofs.Common.{ℕ, ◌≡◌, ◌++◌, List, [], IsPermutation, sym, ap, ap₂, subst, ◌∙◌}
+use Rattle.std.proofs.Common.{ℕ, ◌≡◌, ◌++◌, List, IsPermutation, sym, ap, ap₂, subst, ◌∙◌}
 use Rattle.ct_instance.specs.declared.jobs.Job.{Job}
 use Rattle.ct_jobs.specs.GradedJobs.{of_grade}
 use Rattle.ct_jobs.proofs.JobOrder.{in_job_order}

@@ -1,4 +1,4 @@
-use Rattle.std.proofs.Common.{◌≡◌, ◌++◌, [], map}
+use Rattle.std.proofs.Common.{◌≡◌, [], map}
 use Rattle.ct_instance.specs.declared.jobs.Job.TheVariants.{Generator}
 use Rattle.ct_instance.specs.Jobs.{numbers_after}
 use Rattle.ct_jobs.specs.GradedJobs.{with_grade}

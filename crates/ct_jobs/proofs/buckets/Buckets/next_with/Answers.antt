@@ -1,4 +1,4 @@
-use Rattle.std.proofs.Common.{◌≡◌, ◌++◌, sym, ap, ap₂, ◌∙◌}
+use Rattle.std.proofs.Common.{sym, ap, ap₂, ◌∙◌}
 use Rattle.ct_jobs.specs.GradedJobs.{next_grade, lesser_of}
 use Rattle.ct_jobs.proofs.NextGrades.{next_grade-append}
 use Rattle.ct_jobs.proofs.buckets.Buckets.next_with.Goals as goal

@@ -1,0 +1,48 @@
+ghost use Rattle.std.specs.Prelude.{◌≡◌, ◌≤◌, length, IfOk};
+ghost use Rattle.std.specs.Arc.{arc_value};
+ghost use Rattle.ct_walk.specs.Moves.{IsSmallMove};
+
+use anyhow::{Result, anyhow, ensure};
+use ct_instance::Instance;
+use ct_point::Point;
+use ct_walk::{Move, Moves};
+use std::alloc::Global;
+use std::sync::Arc;
+
+/// One row and one column, with the entry 1 and the cost 1.
+pub fn instance_of_one(alloc: Global) -> Result<Arc<Instance>> {
+    match Instance::new(alloc, 1, 1, &[1], &[1]) {
+        Ok(inst) => Ok(Arc::new(alloc, inst)?),
+        Err(fault) => Err(anyhow!("no instance: {fault:?}")),
+    }
+}
+
+// Takes k artificials away and adds k of the column.
+fn exchange(alloc: Global, inst: &Instance, k: u32) -> Result<Move>
+    requires { k ≤ 4096 }
+    ensures { IfOk result (λ m. IsSmallMove inst.now m) }
+{
+    ensure!(inst.rows() == 1 && inst.columns() == 1, "another instance");
+    let k = u64::from(k);
+    let head = Point::from_slice(alloc, &[0, k])?;
+    let tail = Point::from_slice(alloc, &[k, 0])?;
+    match Move::new(inst, 16_000_000_000_000, head, tail) {
+        Ok(made) => Ok(made),
+        Err(fault) => Err(anyhow!("no move: {fault:?}")),
+    }
+}
+
+/// So many moves: the k-th exchanges k artificials for k of the column.
+pub fn moves_of(alloc: Global, inst: &Arc<Instance>, count: u32) -> Result<Moves>
+    requires { count ≤ 4096 }
+    ensures { IfOk result (λ l. l.instance ≡ arc_value inst.now) }
+{
+    let mut moves = Moves::new(alloc, Arc::try_clone(inst)?);
+    for k in 0..count {
+        match moves.push(exchange(alloc, inst, k + 1)?) {
+            Ok(()) => {}
+            Err((_, error)) => return Err(error.into()),
+        }
+    }
+    Ok(moves)
+}

@@ -4,3 +4,5 @@ pub mod Rows
 pub mod JobOrder
 pub mod OneGrade
 pub mod Growing
+pub mod GradeLists
+pub mod Merging

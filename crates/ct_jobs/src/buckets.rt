@@ -1,8 +1,10 @@
 ghost use Rattle.std.specs.Prelude.{◌≡◌, ◌≤◌, List, [], ◌++◌, IsPermutation, IfOk, OnOk, OnErr};
 ghost use Rattle.ct_instance.specs.Jobs.{jobs_at};
+ghost use Rattle.ct_jobs.specs.GradedJobs.{room_beside};
 
 use crate::addition::Addition;
 use crate::critical::column_grade;
+use crate::grade_map::GradeMap;
 use crate::graded::GradedJob;
 use crate::scans::{gather, lesser, next_among};
 use ct_instance::{Instance, Job};
@@ -10,13 +12,14 @@ use ct_walk::Moves;
 use std::alloc::{AllocError, Global};
 use std::marker::Model;
 
-/// The jobs of a list of moves, with their grades.
+/// The jobs of a list of moves, by grade.
 ///
-/// It keeps the jobs in one list and the last addition beside it, 24 bytes a job. `next_with` and `jobs_with` are linear
-/// in the number of jobs.
+/// It keeps the jobs in lists by their grade, in an ordered map, with 12 bytes a job, and the last addition beside it,
+/// with 24 bytes a job. `next_with` looks up the next grade in the map, in the logarithm of the number of grades, and
+/// scans the additions; `jobs_with` looks up one list, scans the additions and sorts what it found.
 #[derive(Debug, Drop)]
 pub struct Buckets {
-    merged: Vec<GradedJob>,
+    lists: GradeMap,
     parked: Vec<GradedJob>,
 }
 
@@ -26,7 +29,7 @@ impl Model for Buckets {
 
     ghost Value = { Store };
 
-    ghost view = { λ b. record { jobs = b.merged.items ++ b.parked.items; spare = room_beside b.parked.items } };
+    ghost view = { λ b. record { jobs = b.lists ++ b.parked.items; spare = room_beside b.parked.items } };
 }
 
 impl Buckets {
@@ -38,16 +41,17 @@ impl Buckets {
     pub fn new(alloc: Global, inst: &Instance) -> Result<Buckets, AllocError>
         ensures { IfOk result (λ b. AreJobsOf inst.now [] b.jobs) }
     {
-        let mut merged = Vec::new(alloc);
+        let mut lists = GradeMap::new(alloc);
         let count = inst.columns() as u32;
         for j in 0..count {
-            merged.push(GradedJob {
+            let generator = GradedJob {
                 grade: column_grade(inst, j + 1),
                 job: Job::Generator(j + 1),
-            })?;
+            };
+            lists.insert(alloc, generator)?;
         }
         Ok(Buckets {
-            merged,
+            lists,
             parked: Vec::new(alloc),
         })
     }
@@ -73,16 +77,14 @@ impl Buckets {
         if self.parked.is_empty() { 1 } else { 0 }
     }
 
-    /// Makes room for one addition, by taking the last one into the list. The jobs stay as they are, also where memory is
-    /// refused. It is linear in the last addition while the list has room, and copies the list where it has to grow.
+    /// Makes room for one addition, by taking the last one into the map job by job. The jobs stay as they are, also where
+    /// memory is refused midway. It is linear in the last addition, times the logarithm of the number of grades.
     pub fn reserve(&mut self) -> Result<(), AllocError>
         ensures jobs { IsPermutation self.old.jobs self.new.jobs }
         ensures room { OnOk result (1 ≤ self.new.spare) }
         ensures refused { OnErr result (self.new.spare ≡ self.old.spare) }
     {
-        self.merged.extend_from_slice(self.parked.as_slice())?;
-        self.parked.clear();
-        Ok(())
+        merge(&mut self.lists, &mut self.parked)
     }
 
     /// Adds the pairs. It takes no memory and can't fail.
@@ -98,7 +100,7 @@ impl Buckets {
         ensures { result ≡ next_grade above (self.now.jobs ++ more.now) }
     {
         let here = lesser(
-            next_among(&self.merged, above),
+            self.lists.next_above(above),
             next_among(&self.parked, above),
         );
         lesser(here, next_among(more.as_slice(), above))
@@ -116,10 +118,24 @@ impl Buckets {
         ensures exact { IfOk result (λ js. (i : Problem) → (ms : List Binomial) → AreJobsOf i ms (self.now.jobs ++ more.now) → js.items ≡ jobs_at i ms grade) }
     {
         let mut jobs = Vec::new(alloc);
-        gather(&mut jobs, &self.merged, grade)?;
+        self.lists.gather(&mut jobs, grade)?;
         gather(&mut jobs, &self.parked, grade)?;
         gather(&mut jobs, more.as_slice(), grade)?;
         jobs.sort_unstable();
         Ok(jobs)
     }
+}
+
+// Moves what is parked into the lists, from its end. Where memory is refused the rest stays parked.
+fn merge(lists: &mut GradeMap, parked: &mut Vec<GradedJob>) -> Result<(), AllocError>
+    ensures jobs { IsPermutation (lists.old ++ parked.old.items) (lists.new ++ parked.new.items) }
+    ensures ok { OnOk result (parked.new.items ≡ []) }
+    ensures err { OnErr result (room_beside parked.new.items ≡ room_beside parked.old.items) }
+{
+    let alloc = *parked.allocator();
+    while let Some(entry) = parked.last().copied() {
+        lists.insert(alloc, entry)?;
+        let _taken = parked.pop();
+    }
+    Ok(())
 }

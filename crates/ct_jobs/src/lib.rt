@@ -9,6 +9,7 @@
 mod addition;
 mod buckets;
 mod critical;
+mod grade_map;
 mod graded;
 pub mod laws;
 mod scans;

@@ -4,3 +4,4 @@ pub mod Rows
 pub mod JobOrder
 pub mod OneGrade
 pub mod Growing
+pub mod ByGradeFacts

@@ -1,7 +1,9 @@
-ghost use Rattle.std.specs.Prelude.{◌≡◌, ◌≤◌, List, [], ◌++◌, IsPermutation, IfOk, OnOk, OnErr};
+ghost use Rattle.std.specs.Prelude.{◌≡◌, ◌≤◌, List, [], ◌∷◌, ◌++◌, IsPermutation, IfOk, OnOk, OnErr};
 ghost use Rattle.ct_instance.specs.Jobs.{jobs_at};
+ghost use Rattle.ct_jobs.specs.GradedJobs.{room_beside};
 
 use crate::addition::Addition;
+use crate::by_grade::ByGrade;
 use crate::critical::column_grade;
 use crate::graded::GradedJob;
 use crate::scans::{gather, lesser, next_among};
@@ -12,11 +14,12 @@ use std::marker::Model;
 
 /// The jobs of a list of moves, with their grades.
 ///
-/// It keeps the jobs in one list and the last addition beside it, 24 bytes a job. `next_with` and `jobs_with` are linear
-/// in the number of jobs.
+/// The pairs stand in an ordered map by grade, 8 bytes a pair in the list of its grade (which may hold room for as many
+/// again), beside it the generators and the last addition, 24 bytes each.
 #[derive(Debug, Drop)]
 pub struct Buckets {
-    merged: Vec<GradedJob>,
+    beside: Vec<GradedJob>,
+    merged: ByGrade,
     parked: Vec<GradedJob>,
 }
 
@@ -26,7 +29,7 @@ impl Model for Buckets {
 
     ghost Value = { Store };
 
-    ghost view = { λ b. record { jobs = b.merged.items ++ b.parked.items; spare = room_beside b.parked.items } };
+    ghost view = { λ b. record { jobs = (b.beside.items ++ b.merged) ++ b.parked.items; spare = room_beside b.parked.items } };
 }
 
 impl Buckets {
@@ -38,16 +41,17 @@ impl Buckets {
     pub fn new(alloc: Global, inst: &Instance) -> Result<Buckets, AllocError>
         ensures { IfOk result (λ b. AreJobsOf inst.now [] b.jobs) }
     {
-        let mut merged = Vec::new(alloc);
+        let mut beside = Vec::new(alloc);
         let count = inst.columns() as u32;
         for j in 0..count {
-            merged.push(GradedJob {
+            beside.push(GradedJob {
                 grade: column_grade(inst, j + 1),
                 job: Job::Generator(j + 1),
             })?;
         }
         Ok(Buckets {
-            merged,
+            beside,
+            merged: ByGrade::new(alloc),
             parked: Vec::new(alloc),
         })
     }
@@ -73,16 +77,14 @@ impl Buckets {
         if self.parked.is_empty() { 1 } else { 0 }
     }
 
-    /// Makes room for one addition, by taking the last one into the list. The jobs stay as they are, also where memory is
-    /// refused. It is linear in the last addition while the list has room, and copies the list where it has to grow.
+    /// Makes room for one addition, by taking the last one into the map. The jobs stay as they are, also where memory is
+    /// refused, and what is taken in by then stays in the map. Each pair costs a look-up of its grade.
     pub fn reserve(&mut self) -> Result<(), AllocError>
         ensures jobs { IsPermutation self.old.jobs self.new.jobs }
         ensures room { OnOk result (1 ≤ self.new.spare) }
         ensures refused { OnErr result (self.new.spare ≡ self.old.spare) }
     {
-        self.merged.extend_from_slice(self.parked.as_slice())?;
-        self.parked.clear();
-        Ok(())
+        merge(&mut self.beside, &mut self.merged, &mut self.parked)
     }
 
     /// Adds the pairs. It takes no memory and can't fail.
@@ -93,18 +95,22 @@ impl Buckets {
         self.parked = more.into_pairs();
     }
 
-    /// The least grade above a number, among the jobs and those of an addition.
+    /// The least grade above a number, among the jobs and those of an addition. It is logarithmic in the number of grades
+    /// in the map, and linear in the number of generators and in the additions, the given one and one absorbed after the
+    /// last `reserve`.
     pub fn next_with(&self, above: u64, more: &Addition) -> Option<u64>
         ensures { result ≡ next_grade above (self.now.jobs ++ more.now) }
     {
-        let here = lesser(
-            next_among(&self.merged, above),
-            next_among(&self.parked, above),
+        let merged = lesser(
+            next_among(&self.beside, above),
+            self.merged.next_above(above),
         );
+        let here = lesser(merged, next_among(&self.parked, above));
         lesser(here, next_among(more.as_slice(), above))
     }
 
-    /// The jobs of one grade, among the jobs and those of an addition, in job order. It sorts those jobs.
+    /// The jobs of one grade, among the jobs and those of an addition, in job order. It finds them as
+    /// fast as `next_with` finds a grade, and sorts them.
     pub fn jobs_with(
         &self,
         alloc: Global,
@@ -116,10 +122,45 @@ impl Buckets {
         ensures exact { IfOk result (λ js. (i : Problem) → (ms : List Binomial) → AreJobsOf i ms (self.now.jobs ++ more.now) → js.items ≡ jobs_at i ms grade) }
     {
         let mut jobs = Vec::new(alloc);
-        gather(&mut jobs, &self.merged, grade)?;
+        gather(&mut jobs, &self.beside, grade)?;
+        self.merged.gather_pairs(&mut jobs, grade)?;
         gather(&mut jobs, &self.parked, grade)?;
         gather(&mut jobs, more.as_slice(), grade)?;
         jobs.sort_unstable();
         Ok(jobs)
     }
+}
+
+// Takes all parked jobs in, from the last. A refusal leaves those that are not taken in.
+fn merge(
+    beside: &mut Vec<GradedJob>,
+    merged: &mut ByGrade,
+    parked: &mut Vec<GradedJob>,
+) -> Result<(), AllocError>
+    ensures jobs { IsPermutation ((beside.old.items ++ merged.old) ++ parked.old.items) ((beside.new.items ++ merged.new) ++ parked.new.items) }
+    ensures taken { OnOk result (parked.new.items ≡ []) }
+    ensures refused { OnErr result (room_beside parked.new.items ≡ room_beside parked.old.items) }
+{
+    while let Some(last) = parked.last() {
+        let entry = *last;
+        take_in(beside, merged, entry)?;
+        parked.pop();
+    }
+    Ok(())
+}
+
+// Takes a job in: a pair into the map, a generator beside it.
+fn take_in(
+    beside: &mut Vec<GradedJob>,
+    merged: &mut ByGrade,
+    entry: GradedJob,
+) -> Result<(), AllocError>
+    ensures more { OnOk result (IsPermutation (entry ∷ (beside.old.items ++ merged.old)) (beside.new.items ++ merged.new)) }
+    ensures refused { OnErr result (beside.new.items ++ merged.new ≡ beside.old.items ++ merged.old) }
+{
+    match entry.job {
+        Job::Generator(_) => beside.push(entry)?,
+        Job::Pair(i, k) => merged.add(entry.grade, (i, k))?,
+    }
+    Ok(())
 }

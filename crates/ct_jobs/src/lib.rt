@@ -8,9 +8,11 @@
 
 mod addition;
 mod buckets;
+mod by_grade;
 mod critical;
 mod graded;
 pub mod laws;
+mod one_grade;
 mod scans;
 
 pub use addition::Addition;

@@ -17,7 +17,8 @@ pub returns : goal.returns
 returns c =
     let i = c.args.inst.now in
     let e : c.loop-j.j ≡ column_count i = omega arith in
-    let f : graded_jobs i [] ≡ c.loop-j.merged.items ++ c.new.result.items =
-    generators_all i ∙ ap (λ n. map (with_grade i []) (map Generator (numbers_after 0 n))) (sym e) ∙ sym c.loop-j.invariant ∙
-    sym (ap (λ l. c.loop-j.merged.items ++ l) c.new.ensures.items ∙ append-nil c.loop-j.merged.items) in
+    let none : (c.loop-j.beside.items ++ c.new.result) ++ c.new-2.result.items ≡ c.loop-j.beside.items =
+    ap₂ (λ k l. (c.loop-j.beside.items ++ k) ++ l) c.new.ensures c.new-2.ensures.items ∙ append-nil (c.loop-j.beside.items ++ []) ∙ append-nil c.loop-j.beside.items in
+    let f : graded_jobs i [] ≡ (c.loop-j.beside.items ++ c.new.result) ++ c.new-2.result.items =
+    generators_all i ∙ ap (λ n. map (with_grade i []) (map Generator (numbers_after 0 n))) (sym e) ∙ sym c.loop-j.invariant ∙ sym none in
     subst (IsPermutation (graded_jobs i [])) f (IsPermutation-refl (graded_jobs i []))

@@ -5,4 +5,4 @@ use Rattle.ct_jobs.specs.GradedJobs.{with_grade}
 use Rattle.ct_jobs.proofs.buckets.Buckets.new.Given as goal
 
 abbrev pub invariant-loop-j : goal.invariant-loop-j
-invariant-loop-j l = l.merged.items ≡ map (with_grade l.inst []) (map Generator (numbers_after 0 l.j))
+invariant-loop-j l = l.beside.items ≡ map (with_grade l.inst []) (map Generator (numbers_after 0 l.j))

@@ -14,8 +14,8 @@ use std::marker::Model;
 
 /// The jobs of a list of moves, with their grades.
 ///
-/// The pairs stand in an ordered map by grade, 8 bytes a pair in the list of its grade (which may hold room for as many
-/// again), beside it the generators and the last addition, 24 bytes each.
+/// The pairs stand in an ordered map by grade: 8 bytes each in the list of their grade, which may have room for as many
+/// again, and some 50 to 150 bytes for a grade. The generators and the last addition stand beside it, with 24 bytes a job.
 #[derive(Debug, Drop)]
 pub struct Buckets {
     beside: Vec<GradedJob>,
@@ -77,8 +77,9 @@ impl Buckets {
         if self.parked.is_empty() { 1 } else { 0 }
     }
 
-    /// Makes room for one addition, by taking the last one into the map. The jobs stay as they are, also where memory is
-    /// refused, and what is taken in by then stays in the map. Each pair costs a look-up of its grade.
+    /// Makes room for one addition, by taking the last one into the map, pair by pair, and then giving back its memory.
+    /// The jobs stay as they are, also where memory is refused; what is in the map by then stays there. It is linear in
+    /// the last addition times the logarithm of the number of grades.
     pub fn reserve(&mut self) -> Result<(), AllocError>
         ensures jobs { IsPermutation self.old.jobs self.new.jobs }
         ensures room { OnOk result (1 ≤ self.new.spare) }
@@ -96,8 +97,7 @@ impl Buckets {
     }
 
     /// The least grade above a number, among the jobs and those of an addition. It is logarithmic in the number of grades
-    /// in the map, and linear in the number of generators and in the additions, the given one and one absorbed after the
-    /// last `reserve`.
+    /// in the map, and linear in the generators, in that addition and in the one that was absorbed since `reserve`.
     pub fn next_with(&self, above: u64, more: &Addition) -> Option<u64>
         ensures { result ≡ next_grade above (self.now.jobs ++ more.now) }
     {
@@ -109,8 +109,8 @@ impl Buckets {
         lesser(here, next_among(more.as_slice(), above))
     }
 
-    /// The jobs of one grade, among the jobs and those of an addition, in job order. It finds them as
-    /// fast as `next_with` finds a grade, and sorts them.
+    /// The jobs of one grade, among the jobs and those of an addition, in job order. It looks at what `next_with` looks
+    /// at, and sorts the jobs of that grade.
     pub fn jobs_with(
         &self,
         alloc: Global,
@@ -146,6 +146,7 @@ fn merge(
         take_in(beside, merged, entry)?;
         parked.pop();
     }
+    parked.shrink_to_fit();
     Ok(())
 }
 

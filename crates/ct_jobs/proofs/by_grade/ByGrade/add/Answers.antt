@@ -15,9 +15,9 @@ returns-in-Some-clause-more c =
     let es = c.self.inside.map.entries in
     on_ok_weaker c.push_pair.result
     (λ h.
-        subst (λ l. IsPermutation (x ∷ l) (graded_entries (c.get_mut.follows.lender w).entries)) c.self.view_is
-        (subst (λ l. IsPermutation (x ∷ graded_entries es) (graded_entries l)) (sym (c.get_mut.follows.holds w).0)
-        (pair_written g c.args.pair c.in-Some.pairs.now w es (sym c.in-Some.ensures.value) h)))
+    subst (λ l. IsPermutation (x ∷ l) (graded_entries (c.get_mut.follows.lender w).entries)) c.self.view_is
+    (subst (λ l. IsPermutation (x ∷ graded_entries es) (graded_entries l)) (sym (c.get_mut.follows.holds w).0)
+    (pair_written g c.args.pair c.in-Some.pairs.now w es (sym c.in-Some.ensures.value) h)))
     c.push_pair.ensures.more
 
 pub returns-in-Some-clause-refused : goal.returns-in-Some-clause-refused
@@ -26,7 +26,7 @@ returns-in-Some-clause-refused c =
     let w = c.push_pair.new.pairs in
     on_err_weaker c.push_pair.result
     (λ h.
-        ap graded_entries (c.get_mut.follows.holds w).0 ∙ entry_stays g c.in-Some.pairs.now w c.self.inside.map.entries (sym c.in-Some.ensures.value) h ∙ c.self.view_is)
+    ap graded_entries (c.get_mut.follows.holds w).0 ∙ entry_stays g c.in-Some.pairs.now w c.self.inside.map.entries (sym c.in-Some.ensures.value) h ∙ c.self.view_is)
     c.push_pair.ensures.refused
 
 pub returns-in-None-clause-more : goal.returns-in-None-clause-more
@@ -37,7 +37,7 @@ returns-in-None-clause-more c =
     let es = c.self.inside.map.entries in
     on_ok_weaker c.put_grade.result
     (λ h.
-        subst (λ l. IsPermutation (x ∷ l) (graded_entries c.put_grade.new.map.entries)) c.self.view_is
-        (subst (λ l. IsPermutation (x ∷ graded_entries es) (graded_entries l)) (sym (h ∙ ap (λ m. insert_entry nat_cmp m.entries g v) c.get_mut.follows.holds-at-none))
-        (pair_inserted g c.args.pair v es (sym c.in-None.ensures.value) (ap (λ l. c.args.pair ∷ l) c.new.ensures.items))))
+    subst (λ l. IsPermutation (x ∷ l) (graded_entries c.put_grade.new.map.entries)) c.self.view_is
+    (subst (λ l. IsPermutation (x ∷ graded_entries es) (graded_entries l)) (sym (h ∙ ap (λ m. insert_entry nat_cmp m.entries g v) c.get_mut.follows.holds-at-none))
+    (pair_inserted g c.args.pair v es (sym c.in-None.ensures.value) (ap (λ l. c.args.pair ∷ l) c.new.ensures.items))))
     c.put_grade.ensures.more

@@ -1,4 +1,4 @@
-use Rattle.std.proofs.Common.{◌≡◌, ◌≤◌, ◌-◌, ◌++◌, ◌∷◌, [], Some, length, length-append, vec_len, slice_get, sym, ap, subst, ◌∙◌, arith}
+use Rattle.std.proofs.Common.{◌≡◌, ◌-◌, ◌++◌, ◌∷◌, [], Some, length, length-append, vec_len, slice_get, sym, ap, ◌∙◌, arith}
 use Rattle.ct_jobs.proofs.ByGradeFacts.{last_popped, last_moved}
 use Rattle.ct_jobs.proofs.buckets.merge.Goals as goal
 

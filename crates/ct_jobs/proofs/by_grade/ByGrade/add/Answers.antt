@@ -1,9 +1,9 @@
-use Rattle.std.proofs.Common.{◌≡◌, ◌++◌, ◌∷◌, [], IsPermutation, sym, ap, ap₂, subst, ◌∙◌}
+use Rattle.std.proofs.Common.{◌∷◌, IsPermutation, sym, ap, subst, ◌∙◌}
 use Rattle.std.proofs.lemmas.Result.{on_ok_weaker, on_err_weaker}
 use Rattle.ct_jobs.specs.declared.one_grade.OneGrade.{OneGrade}
 use Rattle.std.specs.Ordering.{nat_cmp}
 use Rattle.std.specs.BTreeMap.{insert_entry}
-use Rattle.ct_jobs.specs.PairsByGrade.{graded_pair, pairs_in, graded_entries}
+use Rattle.ct_jobs.specs.PairsByGrade.{graded_pair, graded_entries}
 use Rattle.ct_jobs.proofs.ByGradeFacts.{pair_written, entry_stays, pair_inserted}
 use Rattle.ct_jobs.proofs.by_grade.ByGrade.add.Goals as goal
 

@@ -116,7 +116,7 @@ jobs_grow i ms ns js a =
 -- ---- the next grade
 
 -- what the least number above d is, by membership
-abbrev pub IsNext : ℕ → List ℕ → Option ℕ → Type 0
+abbrev IsNext : ℕ → List ℕ → Option ℕ → Type 0
 IsNext d gs None = (x : ℕ) → Contains gs x → x ≤ d
 IsNext d gs (Some g) = Contains gs g × (d < g) × ((x : ℕ) → Contains gs x → d < x → g ≤ x)
 
@@ -142,7 +142,7 @@ next_skips d g gs l None n = λ x c. ⊎_elim (λ s. omega (arith, s)) (n x) (Co
 next_skips d g gs l (Some h) n =
     (Contains-there g gs h n.0, n.1, λ x c k. ⊎_elim (λ s. absurd (omega (arith, s))) (λ f. n.2 x f k) (Contains-cons_cases g gs x c))
 
-pub next_is : (d : ℕ) (gs : List ℕ) → IsNext d gs (least_above d gs)
+next_is : (d : ℕ) (gs : List ℕ) → IsNext d gs (least_above d gs)
 next_is d [] = λ x c. absurd (Contains-nil x c)
 next_is d (g ∷ gs) = subst (IsNext d (g ∷ gs)) (sym (least_above-cons d g gs)) (more (nat_lt d g) refl (next_is d gs))
   where
@@ -150,7 +150,7 @@ next_is d (g ∷ gs) = subst (IsNext d (g ∷ gs)) (sym (least_above-cons d g gs
     more true e n = subst (λ o. IsNext d (g ∷ gs) (lesser_of o (least_above d gs))) (sym (one_above d g e)) (next_more d g gs (ltb-true d g e) (least_above d gs) n)
     more false e n = subst (λ o. IsNext d (g ∷ gs) (lesser_of o (least_above d gs))) (sym (one_not_above d g e)) (next_skips d g gs (ltb-false d g e) (least_above d gs) n)
 
-pub next_is_one : (d : ℕ) (gs hs : List ℕ) (a b : Option ℕ) → ((x : ℕ) → Contains gs x → Contains hs x) → ((x : ℕ) → Contains hs x → Contains gs x) → IsNext d gs a → IsNext d hs b → a ≡ b
+next_is_one : (d : ℕ) (gs hs : List ℕ) (a b : Option ℕ) → ((x : ℕ) → Contains gs x → Contains hs x) → ((x : ℕ) → Contains hs x → Contains gs x) → IsNext d gs a → IsNext d hs b → a ≡ b
 next_is_one d gs hs None None f g m n = refl
 next_is_one d gs hs None (Some y) f g m n = let l : d < y = n.1 in let h : y ≤ d = m y (g y n.0) in absurd (omega arith)
 next_is_one d gs hs (Some x) None f g m n = let l : d < x = m.1 in let h : x ≤ d = n x (f x m.0) in absurd (omega arith)

@@ -4,5 +4,4 @@ pub mod Rows
 pub mod JobOrder
 pub mod OneGrade
 pub mod Growing
-pub mod GradeLists
-pub mod Merging
+pub mod ByGradeFacts

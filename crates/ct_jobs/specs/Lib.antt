@@ -1,4 +1,4 @@
 pub mod GradedJobs
 pub mod Leaves
 pub mod Laws
-pub mod ByGrade
+pub mod PairsByGrade

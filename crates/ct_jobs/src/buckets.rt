@@ -1,10 +1,10 @@
-ghost use Rattle.std.specs.Prelude.{◌≡◌, ◌≤◌, List, [], ◌++◌, IsPermutation, IfOk, OnOk, OnErr};
+ghost use Rattle.std.specs.Prelude.{◌≡◌, ◌≤◌, List, [], ◌∷◌, ◌++◌, IsPermutation, IfOk, OnOk, OnErr};
 ghost use Rattle.ct_instance.specs.Jobs.{jobs_at};
 ghost use Rattle.ct_jobs.specs.GradedJobs.{room_beside};
 
 use crate::addition::Addition;
+use crate::by_grade::ByGrade;
 use crate::critical::column_grade;
-use crate::grade_map::GradeMap;
 use crate::graded::GradedJob;
 use crate::scans::{gather, lesser, next_among};
 use ct_instance::{Instance, Job};
@@ -12,14 +12,14 @@ use ct_walk::Moves;
 use std::alloc::{AllocError, Global};
 use std::marker::Model;
 
-/// The jobs of a list of moves, by grade.
+/// The jobs of a list of moves, with their grades.
 ///
-/// It keeps the jobs in lists by their grade, in an ordered map, with 12 bytes a job, and the last addition beside it,
-/// with 24 bytes a job. `next_with` looks up the next grade in the map, in the logarithm of the number of grades, and
-/// scans the additions; `jobs_with` looks up one list, scans the additions and sorts what it found.
+/// The pairs stand in an ordered map by grade: 8 bytes each in the list of their grade, which may have room for as many
+/// again, and some 50 to 150 bytes for a grade. The generators and the last addition stand beside it, with 24 bytes a job.
 #[derive(Debug, Drop)]
 pub struct Buckets {
-    lists: GradeMap,
+    beside: Vec<GradedJob>,
+    merged: ByGrade,
     parked: Vec<GradedJob>,
 }
 
@@ -29,7 +29,7 @@ impl Model for Buckets {
 
     ghost Value = { Store };
 
-    ghost view = { λ b. record { jobs = b.lists ++ b.parked.items; spare = room_beside b.parked.items } };
+    ghost view = { λ b. record { jobs = (b.beside.items ++ b.merged) ++ b.parked.items; spare = room_beside b.parked.items } };
 }
 
 impl Buckets {
@@ -41,17 +41,17 @@ impl Buckets {
     pub fn new(alloc: Global, inst: &Instance) -> Result<Buckets, AllocError>
         ensures { IfOk result (λ b. AreJobsOf inst.now [] b.jobs) }
     {
-        let mut lists = GradeMap::new(alloc);
+        let mut beside = Vec::new(alloc);
         let count = inst.columns() as u32;
         for j in 0..count {
-            let generator = GradedJob {
+            beside.push(GradedJob {
                 grade: column_grade(inst, j + 1),
                 job: Job::Generator(j + 1),
-            };
-            lists.insert(alloc, generator)?;
+            })?;
         }
         Ok(Buckets {
-            lists,
+            beside,
+            merged: ByGrade::new(alloc),
             parked: Vec::new(alloc),
         })
     }
@@ -77,14 +77,15 @@ impl Buckets {
         if self.parked.is_empty() { 1 } else { 0 }
     }
 
-    /// Makes room for one addition, by taking the last one into the map job by job. The jobs stay as they are, also where
-    /// memory is refused midway. It is linear in the last addition, times the logarithm of the number of grades.
+    /// Makes room for one addition, by taking the last one into the map, pair by pair, and then giving back its memory.
+    /// The jobs stay as they are, also where memory is refused; what is in the map by then stays there. It is linear in
+    /// the last addition times the logarithm of the number of grades.
     pub fn reserve(&mut self) -> Result<(), AllocError>
         ensures jobs { IsPermutation self.old.jobs self.new.jobs }
         ensures room { OnOk result (1 ≤ self.new.spare) }
         ensures refused { OnErr result (self.new.spare ≡ self.old.spare) }
     {
-        merge(&mut self.lists, &mut self.parked)
+        merge(&mut self.beside, &mut self.merged, &mut self.parked)
     }
 
     /// Adds the pairs. It takes no memory and can't fail.
@@ -95,18 +96,21 @@ impl Buckets {
         self.parked = more.into_pairs();
     }
 
-    /// The least grade above a number, among the jobs and those of an addition.
+    /// The least grade above a number, among the jobs and those of an addition. It is logarithmic in the number of grades
+    /// in the map, and linear in the generators, in that addition and in the one that was absorbed since `reserve`.
     pub fn next_with(&self, above: u64, more: &Addition) -> Option<u64>
         ensures { result ≡ next_grade above (self.now.jobs ++ more.now) }
     {
-        let here = lesser(
-            self.lists.next_above(above),
-            next_among(&self.parked, above),
+        let merged = lesser(
+            next_among(&self.beside, above),
+            self.merged.next_above(above),
         );
+        let here = lesser(merged, next_among(&self.parked, above));
         lesser(here, next_among(more.as_slice(), above))
     }
 
-    /// The jobs of one grade, among the jobs and those of an addition, in job order. It sorts those jobs.
+    /// The jobs of one grade, among the jobs and those of an addition, in job order. It looks at what `next_with` looks
+    /// at, and sorts the jobs of that grade.
     pub fn jobs_with(
         &self,
         alloc: Global,
@@ -118,7 +122,8 @@ impl Buckets {
         ensures exact { IfOk result (λ js. (i : Problem) → (ms : List Binomial) → AreJobsOf i ms (self.now.jobs ++ more.now) → js.items ≡ jobs_at i ms grade) }
     {
         let mut jobs = Vec::new(alloc);
-        self.lists.gather(&mut jobs, grade)?;
+        gather(&mut jobs, &self.beside, grade)?;
+        self.merged.gather_pairs(&mut jobs, grade)?;
         gather(&mut jobs, &self.parked, grade)?;
         gather(&mut jobs, more.as_slice(), grade)?;
         jobs.sort_unstable();
@@ -126,16 +131,37 @@ impl Buckets {
     }
 }
 
-// Moves what is parked into the lists, from its end. Where memory is refused the rest stays parked.
-fn merge(lists: &mut GradeMap, parked: &mut Vec<GradedJob>) -> Result<(), AllocError>
-    ensures jobs { IsPermutation (lists.old ++ parked.old.items) (lists.new ++ parked.new.items) }
-    ensures ok { OnOk result (parked.new.items ≡ []) }
-    ensures err { OnErr result (room_beside parked.new.items ≡ room_beside parked.old.items) }
+// Takes all parked jobs in, from the last. A refusal leaves those that are not taken in.
+fn merge(
+    beside: &mut Vec<GradedJob>,
+    merged: &mut ByGrade,
+    parked: &mut Vec<GradedJob>,
+) -> Result<(), AllocError>
+    ensures jobs { IsPermutation ((beside.old.items ++ merged.old) ++ parked.old.items) ((beside.new.items ++ merged.new) ++ parked.new.items) }
+    ensures taken { OnOk result (parked.new.items ≡ []) }
+    ensures refused { OnErr result (room_beside parked.new.items ≡ room_beside parked.old.items) }
 {
-    let alloc = *parked.allocator();
-    while let Some(entry) = parked.last().copied() {
-        lists.insert(alloc, entry)?;
-        let _taken = parked.pop();
+    while let Some(last) = parked.last() {
+        let entry = *last;
+        take_in(beside, merged, entry)?;
+        parked.pop();
+    }
+    parked.shrink_to_fit();
+    Ok(())
+}
+
+// Takes a job in: a pair into the map, a generator beside it.
+fn take_in(
+    beside: &mut Vec<GradedJob>,
+    merged: &mut ByGrade,
+    entry: GradedJob,
+) -> Result<(), AllocError>
+    ensures more { OnOk result (IsPermutation (entry ∷ (beside.old.items ++ merged.old)) (beside.new.items ++ merged.new)) }
+    ensures refused { OnErr result (beside.new.items ++ merged.new ≡ beside.old.items ++ merged.old) }
+{
+    match entry.job {
+        Job::Generator(_) => beside.push(entry)?,
+        Job::Pair(i, k) => merged.add(entry.grade, (i, k))?,
     }
     Ok(())
 }

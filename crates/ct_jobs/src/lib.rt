@@ -8,10 +8,11 @@
 
 mod addition;
 mod buckets;
+mod by_grade;
 mod critical;
-mod grade_map;
 mod graded;
 pub mod laws;
+mod one_grade;
 mod scans;
 
 pub use addition::Addition;

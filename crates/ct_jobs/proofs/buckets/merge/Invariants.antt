@@ -1,11 +1,11 @@
-use Rattle.std.proofs.Common.{◌≤◌, ◌++◌, length, vec_len, IsPermutation}
+use Rattle.std.proofs.Common.{◌≤◌, ◌++◌, IsPermutation, length}
 use Rattle.ct_jobs.proofs.buckets.merge.Given as goal
 
-abbrev pub invariant-loop-entry : goal.invariant-loop-entry
-invariant-loop-entry l = record {
-  jobs : IsPermutation (l.initial.lists ++ l.initial.parked.items) (l.lists ++ l.parked.items);
-  most : length l.parked.items ≤ length l.initial.parked.items;
+abbrev pub invariant-loop-last : goal.invariant-loop-last
+invariant-loop-last l = record {
+  jobs : IsPermutation ((l.initial.beside.items ++ l.initial.merged) ++ l.initial.parked.items) ((l.beside.items ++ l.merged) ++ l.parked.items);
+  parked : length l.parked.items ≤ length l.initial.parked.items;
 }
 
-abbrev pub decreases-loop-entry : goal.decreases-loop-entry
-decreases-loop-entry l = vec_len l.parked
+abbrev pub decreases-loop-last : goal.decreases-loop-last
+decreases-loop-last l = length l.parked.items

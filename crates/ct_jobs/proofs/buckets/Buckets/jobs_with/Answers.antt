@@ -13,15 +13,18 @@ pub returns-clause-exact : goal.returns-clause-exact
 returns-clause-exact c i ms a =
     let g : ℕ = c.args.grade in
     let all : List Job = of_grade g (c.args.self.now.jobs ++ c.args.more.now) in
-    let one = c.self.inside.lists in
-    let two = c.self.inside.parked.items in
+    let one = c.self.inside.beside.items in
+    let two = c.self.inside.merged in
+    let three = c.self.inside.parked.items in
     let first : c.gather.new.out.items ≡ of_grade g one =
-    c.in_ok-gather.ensures ∙ ap (λ l. l ++ of_grade g one) c.new-jobs.ensures.items in
-    let second : c.gather-2.new.out.items ≡ of_grade g (one ++ two) =
-    c.in_ok-gather-2.ensures ∙ ap₂ ◌++◌ first (ap (of_grade g) c.deref.ensures.value) ∙ sym (of_grade-append g one two) in
-    let third : c.gather-3.new.out.items ≡ all =
-    c.in_ok-gather-3.ensures ∙ ap₂ ◌++◌ (second ∙ ap (λ s. of_grade g s.jobs) c.self.view_is) (ap (of_grade g) c.as_slice.ensures) ∙
+    c.in_ok-gather.ensures ∙ ap (λ l. l ++ of_grade g c.deref.result.now) c.new-jobs.ensures.items ∙ ap (of_grade g) c.deref.ensures.value in
+    let second : c.gather_pairs.new.out.items ≡ of_grade g (one ++ two) =
+    c.in_ok-gather_pairs.ensures ∙ ap (λ l. l ++ of_grade g two) first ∙ sym (of_grade-append g one two) in
+    let third : c.gather-2.new.out.items ≡ of_grade g ((one ++ two) ++ three) =
+    c.in_ok-gather-2.ensures ∙ ap₂ ◌++◌ second (ap (of_grade g) c.deref-2.ensures.value) ∙ sym (of_grade-append g (one ++ two) three) in
+    let fourth : c.gather-3.new.out.items ≡ all =
+    c.in_ok-gather-3.ensures ∙ ap₂ ◌++◌ (third ∙ ap (λ s. of_grade g s.jobs) c.self.view_is) (ap (of_grade g) c.as_slice.ensures) ∙
     sym (of_grade-append g c.args.self.now.jobs c.args.more.now) in
     jobs_are_listed i ms g (c.args.self.now.jobs ++ c.args.more.now) c.sort_unstable.new.self.items a
-    (subst (λ l. IsPermutation l c.sort_unstable.new.self.items) third c.sort_unstable.ensures.permutation)
+    (subst (λ l. IsPermutation l c.sort_unstable.new.self.items) fourth c.sort_unstable.ensures.permutation)
     (in_job_order c.sort_unstable.new.self.items c.sort_unstable.ensures.sorted)

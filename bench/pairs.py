@@ -1,8 +1,9 @@
 #!/usr/bin/env python3
 """Time and peak memory of the critical pairs of long lists of moves.
 
-Each line gives the number of moves, the number of pairs, the processor time, the peak memory, and both a pair; the last
-line gives how they grow from the shortest list to the longest. Run it with the program that `rt run` leaves in
+Each line gives the number of moves, the number of pairs, the processor time beyond that of a list of one move, both a
+pair, and the peak memory, which below some 15 MB is that of the process that starts the program. The last line gives how
+they grow as the number of moves doubles to the limit. Run it with the program that `rt run` leaves in
 crates/ct_jobs_bench/out:
 
     bench/pairs.py PATH_TO_CT_JOBS_BENCH
@@ -31,14 +32,14 @@ def main():
     for count in COUNTS:
         pairs = count * (count - 1) // 2
         best = min(run(sys.argv[1], count) for _ in range(3))
-        seconds, kilobytes = best[0] - empty[0], best[1] - empty[1]
+        seconds, kilobytes = best[0] - empty[0], best[1]
         rows.append((pairs, seconds, kilobytes))
-        print(
-            f"{count} moves, {pairs} pairs: {seconds:.3f} s, {kilobytes / 1024:.1f} MB, "
-            f"{seconds / pairs * 1e9:.0f} ns and {kilobytes * 1024 / pairs:.1f} bytes a pair"
-        )
-    first, last = rows[0], rows[-1]
-    print(f"{last[0] / first[0]:.0f} times the pairs: {last[1] / max(first[1], 1e-3):.0f} times the time, {last[2] / max(first[2], 1):.0f} times the memory")
+        print(f"{count} moves, {pairs} pairs: {seconds:.3f} s, {seconds / pairs * 1e9:.0f} ns a pair, {kilobytes / 1024:.0f} MB")
+    half, whole = rows[-2], rows[-1]
+    print(
+        f"{whole[0] / half[0]:.1f} times the pairs: {whole[1] / half[1]:.1f} times the time, "
+        f"{whole[2] / half[2]:.1f} times the memory, {whole[2] * 1024 / whole[0]:.0f} bytes a pair at the peak"
+    )
 
 
 if __name__ == "__main__":

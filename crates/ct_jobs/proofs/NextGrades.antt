@@ -6,10 +6,6 @@ use Rattle.ct_instance.specs.Versions.{least_above}
 use Rattle.ct_jobs.specs.declared.graded.GradedJob.{GradedJob}
 use Rattle.ct_jobs.specs.GradedJobs.{next_grade, of_grade, lesser_of}
 
-pub lesser_of-none : (a : Option ℕ) → lesser_of a None ≡ a
-lesser_of-none None = refl
-lesser_of-none (Some x) = refl
-
 pub lesser_of_assoc : (a b c : Option ℕ) → lesser_of (lesser_of a b) c ≡ lesser_of a (lesser_of b c)
 lesser_of_assoc None b c = refl
 lesser_of_assoc (Some x) None c = refl

@@ -7,7 +7,7 @@ use Rattle.ct_vectors.proofs.Sums.{length-add_same, scale-one}
 use Rattle.ct_vectors.proofs.Divisors.{Divides-add, Divides-add_left, Divides-lcm, Divides-lcm_right, lcm-divides, length-lcm, Disjoint-from_test, test_from_Disjoint}
 use Rattle.ct_instance.specs.Instance.{Problem, IsColumn, IsInstance, IsPoint, column_count, degree_of, grade_of}
 use Rattle.ct_instance.specs.TestSet.{Binomial}
-use Rattle.ct_instance.specs.Walk.{IsMove, AreMoves}
+use Rattle.ct_instance.specs.Walk.{IsMove}
 use Rattle.ct_instance.specs.Fiber.{IsInFiber}
 use Rattle.ct_instance.specs.Jobs.{the_move, the_column}
 use Rattle.ct_instance.proofs.Degree.{columns, grade-add, grade-divides, coordinate-le-grade}
@@ -22,9 +22,6 @@ pub small_move : (l : MoveList) → IsMoveList l → (k : ℕ) → 1 ≤ k → k
 small_move l h k a b =
     let c = move_at_listed l.moves k (the_move l.moves k) (the_move_at l.moves k a b) in
     subst (IsSmallMove l.instance) c.2 (h.moves c.0 (the_move l.moves k) c.1)
-
-pub are_moves : (l : MoveList) → IsMoveList l → AreMoves l.instance l.moves
-are_moves l h k d b = (h.moves k d b).move
 
 -- the grade of a least common multiple is at most the sum of the grades
 pub grade-lcm : (cs : List (List ℕ)) (p q : List ℕ) → length p ≡ length q → grade_of cs (lcm p q) ≤ grade_of cs p + grade_of cs q

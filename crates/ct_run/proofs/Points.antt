@@ -73,11 +73,6 @@ least_fits i inst row one b right limit p same =
     }
 
 -- the answer by its least point, for one row of costs
-pub answer-short : (i : Problem) → IsInstance i → (row : List ℤ) → i.cost_rows ≡ row ∷ [] → (b p : List ℕ) → p ≡ least_of i b → (s : ℕ) → s ≡ art_total_of (length row) p → 0 < s →
-    answer_of i b ≡ infeasible s
-answer-short i inst row one b p same s short some =
-    ap (outcome_of i) (sym same) ∙ outcome-short i p s (short ∙ ap (λ (n : ℕ). art_total_of n p) (cost_count i inst row one)) some
-
 pub answer-optimum : (i : Problem) → IsInstance i → (row : List ℤ) → i.cost_rows ≡ row ∷ [] → (b p : List ℕ) → p ≡ least_of i b → (s : ℕ) → s ≡ art_total_of (length row) p → s ≤ 0 →
     answer_of i b ≡ optimum (take (length row) p) (cost_of row p ∷ [])
 answer-optimum i inst row one b p same s short none =

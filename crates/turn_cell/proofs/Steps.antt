@@ -18,12 +18,6 @@ double_half k = omega arith
 odd_half : (k : ℕ) → (2 * k + 1) / 2 ≡ k
 odd_half k = omega arith
 
-double_even : (k : ℕ) → (2 * k) % 2 ≡ 0
-double_even k = omega arith
-
-odd_odd : (k : ℕ) → (2 * k + 1) % 2 ≡ 1
-odd_odd k = omega arith
-
 or_even : (k : ℕ) → bit_or (2 * k) 1 ≡ 2 * k + 1
 or_even k = omega (arith, or_add_and (2 * k) 1, and_mask (2 * k) 1)
 

@@ -8,4 +8,6 @@ pub mod TestList
 pub mod Grades
 pub mod Entries
 pub mod JobsList
+pub mod Points
 mod Worked
+mod WorkedRows

@@ -11,7 +11,7 @@ use Rattle.ct_instance.specs.Walk.{IsMove}
 use Rattle.ct_instance.specs.Fiber.{IsInFiber}
 use Rattle.ct_instance.specs.Jobs.{the_move, the_column}
 use Rattle.ct_instance.proofs.Degree.{columns, grade-add, grade-divides, coordinate-le-grade}
-use Rattle.ct_instance.proofs.Grades.{total-limit}
+use Rattle.ct_vectors.proofs.Sums.{total-limit}
 use Rattle.ct_walk.specs.Moves.{MoveList, IsMoveList, IsSmallMove}
 use Rattle.ct_walk.proofs.Ends.{the_move_at, the_column_is, swapped_in_fiber}
 use Rattle.ct_walk.proofs.Steps.{move_at_listed}

@@ -1,3 +1,5 @@
+//! The listing of a fiber.
+
 ghost use Rattle.std.specs.Prelude.{◌≡◌, ◌+◌, ◌≤◌, ◌<◌, ◌++◌, length, take, drop, map, if◌then◌else◌, All, IfOk, OnOk};
 ghost use Rattle.std.specs.List.{best_of};
 ghost use Rattle.ct_vectors.specs.Vectors.{total};

@@ -1,20 +1,22 @@
 -- What the values are that a grammar can give: the requests of a script are right-hand sides within the limit.
-use Rattle.std.proofs.Common.{◌≡◌, ℕ, zero, suc, ◌-◌, ◌≤◌, ℤ, Bool, true, false, if◌then◌else◌, List, [], ◌∷◌, All, length, nat_le, nat_lt, Option, Some, None, Result, Ok, Err, refl, ap, subst}
+use Rattle.std.proofs.Common.{◌≡◌, ℕ, zero, suc, ◌-◌, ◌≤◌, ℤ, Bool, true, false, if◌then◌else◌, List, [], ◌∷◌, All, length, nat_le, IfOk, Option, Some, None, Result, Ok, Err, refl, ap, subst}
 use Rattle.std.proofs.lemmas.Bool.{leb-true}
 use Rattle.std.proofs.lemmas.List.Elements.{All-cons, All-nil}
-use Rattle.ct_text.specs.Tokens.{Lexeme, text_of}
+use Rattle.ct_text.specs.Tokens.{Lexeme}
 use Rattle.ct_text.specs.declared.place.Place.{Place}
 use Rattle.ct_text.specs.declared.number.NumberFault.{NumberFault}
 use Rattle.ct_text.specs.declared.number.NumberFault.TheVariants.{Spelling, Over}
 use Rattle.ct_text.specs.Numbers.{is_natural, value_of, natural_of}
+use Rattle.ct_vectors.specs.declared.limits.TheConstants.{RIGHT_LIMIT}
+use Rattle.ct_input.specs.declared.limits.TheConstants.{PHASE_LIMIT, SESSION_LIMIT, REQUEST_LIMIT}
 use Rattle.ct_input.specs.declared.fault.Fault.{Fault}
 use Rattle.ct_input.specs.declared.script.Request.{Request}
 use Rattle.ct_input.specs.declared.script.Script.{Script}
-use Rattle.ct_input.specs.Sheet.{Sheet, ◌>>=◌, sheet_of}
+use Rattle.ct_input.specs.declared.fault.InputStop.{InputStop}
+use Rattle.ct_input.specs.Sheet.{Sheet, ◌>>=◌, Gives}
 use Rattle.ct_input.specs.Grammar.{Grammar, done, nothing, word, number, signed, fork, barred, part, numbers, upto, if_some, read, token_at, word_in, number_in, number_fault, signed_in, is_next, after_next, nothing_at, barred_at}
 use Rattle.ct_input.specs.SessionText.{request, no_request, requests, session, no_session, sessions, phase, no_phase, phases, session_text}
-use Rattle.ct_input.specs.Files.{value_in, session_file}
-use Rattle.ct_run.specs.Reading.{IsRequest, IsPhase, IsScript}
+use Rattle.ct_input.specs.Script.{IsRequest, IsPhase, IsScript}
 
 -- each value that the grammar can give has P
 abbrev pub Yields : {A : Type 0} → (A → Type 0) → Grammar A → Type 0
@@ -134,8 +136,8 @@ module _ {X : Type 0} (P : X → Type 0) (item : ℕ → Grammar (Option X)) (us
 yields-request : (m : ℕ) → Yields (OnFound (IsRequest m)) (request m)
 unfolding request
 yields-request m = (
-  yields-part (AreNumbers m 1000000000000) (OnFound (IsRequest m)) (numbers m 1000000000000) _ (yields-numbers m 1000000000000) (λ b are. record { right = are.count_is; limit = are.limit }),
-  (yields-part (AreNumbers m 1000000000000) (OnFound (IsRequest m)) (numbers m 1000000000000) _ (yields-numbers m 1000000000000) (λ b are. record { right = are.count_is; limit = are.limit }), tt),
+  yields-part (AreNumbers m RIGHT_LIMIT) (OnFound (IsRequest m)) (numbers m RIGHT_LIMIT) _ (yields-numbers m RIGHT_LIMIT) (λ b are. record { right = are.count_is; limit = are.limit }),
+  (yields-part (AreNumbers m RIGHT_LIMIT) (OnFound (IsRequest m)) (numbers m RIGHT_LIMIT) _ (yields-numbers m RIGHT_LIMIT) (λ b are. record { right = are.count_is; limit = are.limit }), tt),
 )
 
 yields-requests : (m spare : ℕ) → Yields (All (IsRequest m)) (requests m spare)
@@ -146,7 +148,7 @@ unfolding session
 yields-session m spare = (yields-part (All (IsRequest m)) (OnFound (All (IsRequest m))) (requests m spare) _ (yields-requests m spare) (λ rs all. all), tt)
 
 yields-sessions : (m spare : ℕ) → Yields (All (λ rs. All (IsRequest m) rs)) (sessions m spare)
-yields-sessions m spare = yields-upto (λ rs. All (IsRequest m) rs) (session m) length no_session (yields-session m) (All-nil (λ (rs : List Request). All (IsRequest m) rs)) 16 spare
+yields-sessions m spare = yields-upto (λ rs. All (IsRequest m) rs) (session m) length no_session (yields-session m) (All-nil (λ (rs : List Request). All (IsRequest m) rs)) SESSION_LIMIT spare
 
 yields-phase : (m spare : ℕ) → Yields (OnFound (IsPhase m)) (phase m spare)
 unfolding phase
@@ -154,21 +156,13 @@ yields-phase m spare =
     (λ target below. yields-part (All (λ rs. All (IsRequest m) rs)) (OnFound (IsPhase m)) (sessions m spare) _ (yields-sessions m spare) (λ ss all. all), tt)
 
 yields-phases : (m spare : ℕ) → Yields (All (IsPhase m)) (phases m spare)
-yields-phases m spare = yields-upto (IsPhase m) (phase m) _ no_phase (yields-phase m) (All-nil (IsPhase m)) 64 spare
+yields-phases m spare = yields-upto (IsPhase m) (phase m) _ no_phase (yields-phase m) (All-nil (IsPhase m)) PHASE_LIMIT spare
 
 yields-session_text : (m : ℕ) → Yields (IsScript m) (session_text m)
 unfolding session_text
-yields-session_text m = yields-part (All (IsPhase m)) (IsScript m) (phases m 100000) _ (yields-phases m 100000) (λ ps all. all)
+yields-session_text m = yields-part (All (IsPhase m)) (IsScript m) (phases m REQUEST_LIMIT) _ (yields-phases m REQUEST_LIMIT) (λ ps all. all)
 
-within-ok : (b : Bool) (r : Result Script Fault) (e : Fault) (script : Script) → (if b then Err e else r) ≡ Ok script → r ≡ Ok script
-within-ok true r e script same = absurd (cc)
-within-ok false r e script same = same
-
--- the script of a file is one for the instance
-pub session_file-script : (m : ℕ) (bytes : List ℕ) (script : Script) → session_file m bytes ≡ Ok script → IsScript m script
-unfolding session_file
-session_file-script m bytes script same =
-    let value = within-ok (nat_lt 16777216 (length bytes)) (value_in (session_text m) bytes) _ script same in
-    let b = bind-ok (read (session_text m) (sheet_of (text_of bytes))) _ script value in
-    let here : IsScript m b.0.0 = read_yields (IsScript m) (session_text m) (sheet_of (text_of bytes)) b.0 (yields-session_text m) b.1.0 in
-    subst (IsScript m) (ok_same b.0.0 script b.1.1) here
+-- the script that was read is one for so many rows
+pub script_read : (m : ℕ) (s rest : Sheet) (r : Result Script InputStop) → Gives (λ (script : Script). (script, rest)) r (read (session_text m) s) → IfOk r (IsScript m)
+script_read m s rest (Ok script) e = read_yields (IsScript m) (session_text m) s (script, rest) (yields-session_text m) e
+script_read m s rest (Err e) gives = tt

@@ -1,0 +1,4 @@
+pub mod Machine
+pub mod Journal
+pub mod Remainders
+pub mod Kept

@@ -1,5 +1,5 @@
 -- The definitions on worked examples, by computation: two coins of 3 and 5 at cost 2 and 3, and a tie.
-use Rattle.std.proofs.Common.{ℕ, pos, nat_abs, ◌≤◌, ◌≡◌, List, [], ◌∷◌, map, refl, arith, lit≤}
+use Rattle.std.proofs.Common.{ℕ, Some, None, pos, nat_abs, ◌≤◌, ◌≡◌, List, [], ◌∷◌, map, refl, arith, lit≤}
 use Rattle.std.proofs.lemmas.List.Elements.{All-from_recursion}
 use Rattle.ct_instance.specs.declared.jobs.Job.TheVariants.{Generator, Pair}
 use Rattle.ct_instance.specs.Instance.{Problem, IsColumn, IsCostRow, IsInstance}
@@ -8,6 +8,7 @@ use Rattle.ct_instance.specs.Answer.{optimum, infeasible, answer_of}
 use Rattle.ct_instance.specs.TestSet.{Binomial, lists_of, test_moves_at, test_list}
 use Rattle.ct_instance.specs.Jobs.{all_jobs, job_grade_of, jobs_at}
 use Rattle.ct_instance.specs.Versions.{upto, everything, level_after, level_of}
+use Rattle.ct_instance.specs.Reach.{opened_grade, last_opened, first_version_from, full_grade_up_to, reach_of}
 
 abbrev coins : Problem
 coins = record { rows = 1; columns = (3 ∷ []) ∷ (5 ∷ []) ∷ []; cost_rows = (pos 2 ∷ pos 3 ∷ []) ∷ [] }
@@ -70,6 +71,27 @@ levels : map (level_of coins) (0 ∷ 1 ∷ 2 ∷ 3 ∷ 4 ∷ 5 ∷ 6 ∷ 7 ∷ 8
     upto 2 ∷ upto 4 ∷ upto 5 ∷ upto 7 ∷ upto 9 ∷ upto 10 ∷ upto 11 ∷ upto 14 ∷ upto 15 ∷ upto 16 ∷ upto 17 ∷ upto 20 ∷ everything ∷ []
 unfolding level_of level_after test_list test_moves_at lists_of least_of fiber_of all_jobs
 levels = refl
+
+-- the first version for the grades 2, 3 and 5, and how far a limit of two moves lets them come
+first_versions : map (first_version_from coins) (2 ∷ 3 ∷ 5 ∷ 8 ∷ []) ≡ 0 ∷ 1 ∷ 2 ∷ 4 ∷ []
+unfolding first_version_from level_of level_after test_list test_moves_at lists_of least_of fiber_of all_jobs
+first_versions = refl
+
+opened : map (opened_grade coins) (0 ∷ 3 ∷ 12 ∷ []) ≡ Some 3 ∷ Some 8 ∷ None ∷ []
+unfolding level_of level_after test_list test_moves_at lists_of least_of fiber_of all_jobs
+opened = refl
+
+opened_last : map (last_opened coins) (0 ∷ 1 ∷ 4 ∷ []) ≡ 0 ∷ 3 ∷ 8 ∷ []
+unfolding level_of level_after test_list test_moves_at lists_of least_of fiber_of all_jobs
+opened_last = refl
+
+full_of_two : map (full_grade_up_to coins 2) (5 ∷ 6 ∷ 9 ∷ []) ≡ None ∷ Some 6 ∷ Some 6 ∷ []
+unfolding full_grade_up_to test_list test_moves_at lists_of least_of fiber_of
+full_of_two = refl
+
+reach_with_two : map (reach_of coins 2) (0 ∷ 3 ∷ 5 ∷ 6 ∷ 9 ∷ []) ≡ upto 2 ∷ upto 4 ∷ upto 5 ∷ upto 5 ∷ upto 5 ∷ []
+unfolding reach_of full_grade_up_to first_version_from level_of level_after test_list test_moves_at lists_of least_of fiber_of all_jobs
+reach_with_two = refl
 
 -- the premises of the laws are met
 coins_is_instance : IsInstance coins

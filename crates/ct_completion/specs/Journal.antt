@@ -1,16 +1,17 @@
 -- The journal of a completion, and its replay. An entry has a pass, a serial and an act.
-use Rattle.std.specs.Prelude.{ℕ, ◌≡◌, ◌<◌, nat_eq, Option, Some, None, List, [], ◌∷◌, ◌++◌, length, take, get_or, count_by, IsPermutation, suc}
+use Rattle.std.specs.Prelude.{ℕ, ◌≡◌, ◌<◌, nat_eq, Some, List, [], ◌∷◌, ◌++◌, length, take, get_or, count_by, IsPermutation, suc}
 use Rattle.ct_instance.specs.Instance.{Problem}
+use Rattle.ct_instance.specs.Reach.{opened_grade}
 use Rattle.ct_completion.specs.declared.journals.Act.{Act}
 use Rattle.ct_completion.specs.declared.journals.Act.TheVariants.{Stored, Published, MarkedFull}
 use Rattle.ct_completion.specs.declared.journals.Entry.{Entry}
-use Rattle.ct_completion.specs.Machine.{CompletionState, CompletionEvent, hands_out, stores, already, publishes, marks_full, refuses, CompletionStep, opened_grade_of, just_opened}
+use Rattle.ct_completion.specs.Machine.{CompletionState, CompletionEvent, hands_out, stores, already, publishes, marks_full, refuses, CompletionStep, just_opened}
 
 -- the act that an event in the state s is written down as: a stored job, the new version's number, the opened grade
 abbrev pub IsActOf : Problem → CompletionState → CompletionEvent → Act → Type 0
 IsActOf i s (stores j) act = act ≡ Stored j
 IsActOf i s publishes act = act ≡ Published (suc s.number)
-IsActOf i s marks_full act = (d : ℕ) × (opened_grade_of i s.number ≡ Some d) × (act ≡ MarkedFull d)
+IsActOf i s marks_full act = (d : ℕ) × (opened_grade i s.number ≡ Some d) × (act ≡ MarkedFull d)
 IsActOf i s (hands_out j) act = ⊥
 IsActOf i s (already k j) act = ⊥
 IsActOf i s refuses act = ⊥

@@ -1,23 +1,16 @@
 -- The completion machine: what a completion may do. A state has no moves and no remainders: which list version k has
 -- is said by its number alone.
-use Rattle.std.specs.Prelude.{ℕ, ◌+◌, ◌≤◌, ◌<◌, ◌≡◌, ◌⊎◌, Bool, true, false, Option, Some, None, List, [], ◌∷◌, ◌++◌, length, Contains, suc}
+use Rattle.std.specs.Prelude.{ℕ, ◌≤◌, ◌<◌, ◌≡◌, ◌⊎◌, Bool, true, false, Option, Some, None, List, [], ◌∷◌, ◌++◌, length, Contains, suc}
 use Rattle.ct_instance.specs.declared.jobs.Job.{Job}
 use Rattle.ct_instance.specs.Instance.{Problem}
 use Rattle.ct_instance.specs.TestSet.{test_list}
 use Rattle.ct_instance.specs.Jobs.{jobs_at}
-use Rattle.ct_instance.specs.Versions.{Level, upto, everything, level_of, version_list}
-
--- the grade that version k opens: one above its level
-unfoldable pub opened_grade_of : Problem → ℕ → Option ℕ
-opened_grade_of i k = above (level_of i k)
-  where
-    above : Level → Option ℕ
-    above (upto l) = Some (l + 1)
-    above everything = None
+use Rattle.ct_instance.specs.Versions.{version_list}
+use Rattle.ct_instance.specs.Reach.{opened_grade}
 
 -- the jobs of the opened grade, in job order; none where no grade is open
-unfoldable pub opened_jobs_of : Problem → ℕ → List Job
-opened_jobs_of i k = jobs_of (opened_grade_of i k)
+unfoldable pub opened_jobs : Problem → ℕ → List Job
+opened_jobs i k = jobs_of (opened_grade i k)
   where
     jobs_of : Option ℕ → List Job
     jobs_of (Some d) = jobs_at i (version_list i k) d
@@ -31,16 +24,16 @@ pub record CompletionState : Type 0 where
 
 -- version k, with its grade just opened
 abbrev pub just_opened : Problem → ℕ → CompletionState
-just_opened i k = record { number = k; queue = opened_jobs_of i k; full = false }
+just_opened i k = record { number = k; queue = opened_jobs i k; full = false }
 
 -- a job of the opened grade is resolved that isn't in the queue
 pub record IsResolved (i : Problem) (s : CompletionState) (j : Job) : Type 0 where
-  pub job : Contains (opened_jobs_of i s.number) j
+  pub job : Contains (opened_jobs i s.number) j
   pub done : Contains s.queue j → ⊥
 
 -- the grade d is open, all its jobs are resolved, and the state isn't marked full
 pub record IsReady (i : Problem) (s : CompletionState) (d : ℕ) : Type 0 where
-  pub opened : opened_grade_of i s.number ≡ Some d
+  pub opened : opened_grade i s.number ≡ Some d
   pub resolved : s.queue ≡ []
   pub unmarked : s.full ≡ false
 

@@ -1,32 +1,32 @@
 -- What the points that a grade's jobs leave give, with the test list of the grades before: a list that joins each job of
 -- the grade, so that the least point of a group is the least of its fiber. All is said within a bound on degrees.
-use Rattle.std.proofs.Common.{ℕ, ◌+◌, ◌≤◌, ◌<◌, ◌≡◌, ◌⊎◌, inl, inr, ⊎_elim, Bool, true, ◌&&◌, nat_eq, Decides, Option, Some, None, List, [], ◌∷◌, ◌++◌, length, map, filter, flat_map, get_or, Contains, refl, sym, subst, subst₂, ap, ap₂, ◌∙◌, arith, zero, suc}
+use Rattle.std.proofs.Common.{ℕ, ◌≤◌, ◌<◌, ◌≡◌, ◌⊎◌, ⊎_elim, Bool, ◌&&◌, nat_eq, Decides, Option, Some, None, List, [], ◌∷◌, ◌++◌, length, map, filter, flat_map, get_or, Contains, refl, sym, subst, subst₂, ap, ◌∙◌, arith, zero, suc}
 use Rattle.std.specs.List.{slice_get}
 use Rattle.std.specs.Cmp.Lexicographic.{pointwise}
 use Rattle.std.proofs.lemmas.Bool.Decides.{Decides-eqb}
 use Rattle.std.proofs.lemmas.Option.{slice_get-get_or, slice_get_within, get_or_from_slice_get}
 use Rattle.std.proofs.lemmas.Bool.{cases_lt, and_parts, and_from}
 use Rattle.std.proofs.lemmas.Slice.Eq.{slice_eq-Decides}
-use Rattle.std.proofs.lemmas.List.Elements.{All-append, Contains-append_left, Contains-append_right, Contains-append_cases, Contains-get_or}
+use Rattle.std.proofs.lemmas.List.Elements.{All-append, Contains-append_right, Contains-append_cases, Contains-get_or}
 use Rattle.ct_vectors.specs.Vectors.{total, add, subtract, zeros, lcm, Divides, Disjoint}
 use Rattle.ct_vectors.proofs.Sums.{total-add, length-subtract, length-zeros, zeros-add, subtract_self}
-use Rattle.ct_vectors.proofs.Divisors.{Divides-lcm, Divides-lcm_right, Divides-trans, length-lcm, add-subtract}
+use Rattle.ct_vectors.proofs.Divisors.{Divides-lcm, Divides-lcm_right, length-lcm, add-subtract}
 use Rattle.ct_order.proofs.Order.{Less-from_test, test_from_Less}
 use Rattle.ct_order.specs.Order.{refined_order}
 use Rattle.ct_instance.specs.declared.jobs.Job.{Job}
 use Rattle.ct_instance.specs.declared.jobs.Job.TheVariants.{Generator, Pair}
 use Rattle.ct_instance.specs.Instance.{Problem, IsInstance, IsPoint, IsRight, column_count, width_of, degree_of, grade_of}
 use Rattle.ct_instance.specs.Fiber.{least_of, is_lower, IsInFiber, IsBelow, IsLeast}
-use Rattle.ct_instance.specs.TestSet.{Binomial, IsImprovable, IsTestHead, IsTestMove}
+use Rattle.ct_instance.specs.TestSet.{Binomial, IsTestHead, IsTestMove}
 use Rattle.ct_instance.specs.Walk.{move_at, first_dividing, IsNormal, IsMove, AreMoves}
 use Rattle.ct_instance.specs.Jobs.{the_move, IsJob, job_degree_of, job_grade_of, first_end_of, second_end_of, IsCoprime}
-use Rattle.ct_instance.proofs.Lists.{Contains-filter, filter_gives, Contains-map, map_gives, Contains-flat_map, flat_map_gives, Contains-here, Contains-there}
+use Rattle.ct_instance.proofs.Lists.{Contains-filter, filter_gives, Contains-map, map_gives, Contains-flat_map, flat_map_gives}
 use Rattle.ct_instance.proofs.Degree.{columns, degree-add, degree_is_right, grade-add, grade-divides, zeros_from_grade}
 use Rattle.ct_instance.proofs.Fiber.{in_own_fiber, rank_of, rank_falls, points_cases, below_itself, below_chain, below_differs, one_least, is_least_of, not_below_least, least_or_improvable, least_not_improvable}
 use Rattle.ct_instance.proofs.TestHeads.{has_test_head, minimal_is}
-use Rattle.ct_walk.specs.Laws.{StaysOrGoesDown, HasOneNormalPoint}
-use Rattle.ct_walk.proofs.Steps.{move_at_listed, move_at_within, dividing_gives, normal_none, normal_from_none, move_at-append}
-use Rattle.ct_walk.proofs.Runs.{IsSwap, Runs, halt, swap, Meet, meet_flip, meet_itself, run_on, run_down, pair_end, pair_end_second}
+use Rattle.ct_walk.specs.Laws.{HasOneNormalPoint}
+use Rattle.ct_walk.proofs.Steps.{move_at_listed, dividing_gives, normal_none, normal_from_none, move_at-append}
+use Rattle.ct_walk.proofs.Runs.{IsSwap, Runs, halt, swap, Meet, meet_itself, run_on, run_down, pair_end, pair_end_second}
 use Rattle.ct_walk.proofs.Ends.{the_move_is, the_move_at, ends_in_fiber}
 use Rattle.ct_walk.proofs.Pairs.{runs_to_normal, one_normal_point}
 use Rattle.ct_completion.specs.Remainders.{IsGroupMove}

@@ -1,5 +1,6 @@
 -- The journal of a completion, and its replay. An entry has a pass, a serial and an act.
-use Rattle.std.specs.Prelude.{ℕ, ◌≡◌, ◌<◌, nat_eq, Some, List, [], ◌∷◌, ◌++◌, length, take, get_or, count_by, IsPermutation, suc}
+use Rattle.std.specs.Prelude.{ℕ, ◌≡◌, ◌<◌, nat_eq, Bool, true, false, Option, Some, None, List, [], ◌∷◌, ◌++◌, length, take, get_or, count_by, IsPermutation, suc}
+use Rattle.std.specs.Option.{option_map, option_to_list}
 use Rattle.ct_instance.specs.Instance.{Problem}
 use Rattle.ct_instance.specs.Reach.{opened_grade}
 use Rattle.ct_completion.specs.declared.journals.Act.{Act}
@@ -7,20 +8,43 @@ use Rattle.ct_completion.specs.declared.journals.Act.TheVariants.{Stored, Publis
 use Rattle.ct_completion.specs.declared.journals.Entry.{Entry}
 use Rattle.ct_completion.specs.Machine.{CompletionState, CompletionEvent, hands_out, stores, already, publishes, marks_full, refuses, CompletionStep, just_opened}
 
--- the act that an event in the state s is written down as: a stored job, the new version's number, the opened grade
-abbrev pub IsActOf : Problem → CompletionState → CompletionEvent → Act → Type 0
-IsActOf i s (stores j) act = act ≡ Stored j
-IsActOf i s publishes act = act ≡ Published (suc s.number)
-IsActOf i s marks_full act = (d : ℕ) × (opened_grade i s.number ≡ Some d) × (act ≡ MarkedFull d)
-IsActOf i s (hands_out j) act = ⊥
-IsActOf i s (already k j) act = ⊥
-IsActOf i s refuses act = ⊥
+-- what an event at version k is written down as: a stored job, the new version's number, the opened grade; else nothing
+abbrev pub act_of : Problem → ℕ → CompletionEvent → Option Act
+act_of i k (stores j) = Some (Stored j)
+act_of i k publishes = Some (Published (suc k))
+act_of i k marks_full = option_map MarkedFull (opened_grade i k)
+act_of i k (hands_out j) = None
+act_of i k (already n j) = None
+act_of i k refuses = None
 
--- the replay of a journal from the opening on: each entry's act is allowed, and names the right number or grade
+-- the number of the version after an event at version k
+abbrev pub number_after : ℕ → CompletionEvent → ℕ
+number_after k publishes = suc k
+number_after k (hands_out j) = k
+number_after k (stores j) = k
+number_after k (already n j) = k
+number_after k marks_full = k
+number_after k refuses = k
+
+-- what a list of events from version k on is written down as
+abbrev pub acts_of : Problem → ℕ → List CompletionEvent → List Act
+acts_of i k [] = []
+acts_of i k (event ∷ events) = option_to_list (act_of i k event) ++ acts_of i (number_after k event) events
+
+-- whether the event publishes
+abbrev pub is_publishing : CompletionEvent → Bool
+is_publishing publishes = true
+is_publishing (hands_out j) = false
+is_publishing (stores j) = false
+is_publishing (already n j) = false
+is_publishing marks_full = false
+is_publishing refuses = false
+
+-- the replay of a journal from the opening on: each entry's act is a step that is allowed, with the right number or grade
 pub data Replays (i : Problem) (limit : ℕ) : List Entry → CompletionState → Type 0 where
   opens : Replays i limit [] (just_opened i 0)
   acts : (entries : List Entry) (s : CompletionState) (event : CompletionEvent) (entry : Entry) (t : CompletionState) →
-      Replays i limit entries s → IsActOf i s event entry.act → CompletionStep i limit s event t → Replays i limit (entries ++ entry ∷ []) t
+      Replays i limit entries s → act_of i s.number event ≡ Some entry.act → CompletionStep i limit s event t → Replays i limit (entries ++ entry ∷ []) t
 
 -- the same state, apart from the order of the queue
 pub record AreAlike (s t : CompletionState) : Type 0 where

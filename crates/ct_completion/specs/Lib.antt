@@ -2,3 +2,4 @@ pub mod Machine
 pub mod Journal
 pub mod Remainders
 pub mod Kept
+pub mod Laws

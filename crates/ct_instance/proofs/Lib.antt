@@ -8,4 +8,5 @@ pub mod TestList
 pub mod Grades
 pub mod Entries
 pub mod JobsList
+pub mod Above
 mod Worked

@@ -1,0 +1,6 @@
+pub mod Levels
+pub mod Lists
+pub mod Covering
+pub mod Full
+pub mod Reach
+pub mod Walks

@@ -1,6 +1,6 @@
 -- Remainders give the new moves: the moves of a grade's groups, put behind the test list of the grades before, make the
 -- test list of the grade.
-use Rattle.std.proofs.Common.{ℕ, ◌≤◌, ◌<◌, ◌≡◌, ◌⊎◌, ◌↔◌, inl, inr, ⊎_elim, Option, Some, None, List, [], ◌∷◌, ◌++◌, length, map, get_or, Contains, AllPairs, refl, sym, subst, ap, ◌∙◌, arith, zero, suc}
+use Rattle.std.proofs.Common.{ℕ, ◌+◌, ◌≤◌, ◌<◌, ◌≡◌, ◌⊎◌, ◌↔◌, inl, inr, ⊎_elim, Option, Some, None, List, [], ◌∷◌, ◌++◌, length, map, get_or, Contains, AllPairs, refl, sym, subst, ap, ◌∙◌, arith, zero, suc}
 use Rattle.std.proofs.lemmas.Bool.{cases_lt}
 use Rattle.std.proofs.lemmas.List.Elements.{Contains-append_left, Contains-append_right, Contains-append_cases, Contains-get_or}
 use Rattle.ct_vectors.specs.Vectors.{total, add}
@@ -11,7 +11,8 @@ use Rattle.ct_instance.specs.Fiber.{IsInFiber}
 use Rattle.ct_instance.specs.TestSet.{Binomial, IsTestHead, IsTestMove, IsTestList, ComesBefore, test_list}
 use Rattle.ct_instance.specs.Walk.{AreMoves, IsWalkEnd}
 use Rattle.ct_instance.specs.Jobs.{IsJob, job_degree_of, job_grade_of, first_end_of, second_end_of, IsCoprime, jobs_at}
-use Rattle.ct_instance.specs.Versions.{IsRemainder, coprime, meet, differ}
+use Rattle.ct_instance.specs.Versions.{upto, level_of, version_list, IsVersion, IsRemainder, coprime, meet, differ}
+use Rattle.ct_instance.specs.Reach.{opened_grade}
 use Rattle.ct_instance.proofs.Lists.{Contains-here, Contains-there, Contains-cons_cases, Contains-nil, Contains-map}
 use Rattle.ct_instance.proofs.Ordered.{InOrder-append, InOrder-pairs, InOrder-from_pairs}
 use Rattle.ct_instance.proofs.JobsList.{jobs_of_grade_listed}
@@ -20,7 +21,11 @@ use Rattle.ct_walk.proofs.Steps.{leads_down}
 use Rattle.ct_walk.proofs.Runs.{leads_run}
 use Rattle.ct_walk.proofs.Ends.{ends_in_fiber}
 use Rattle.ct_walk.proofs.WalkFacts.{walk_leads, walk_normal}
+use Rattle.ct_levels.proofs.Levels.{list_next, version_before}
+use Rattle.ct_levels.proofs.Full.{list_at_level}
+use Rattle.ct_completion.specs.Machine.{opened_jobs}
 use Rattle.ct_completion.specs.Remainders.{AreRemainders, points_of, IsGroupMove}
+use Rattle.ct_completion.proofs.Replay.{opened_level}
 use Rattle.ct_completion.proofs.Groups.{IsTestListWithin, IsMark, IsLeft, test_move_is_move, test_move_in_group, group_move_tests}
 
 -- ---- the points of remainders
@@ -214,3 +219,32 @@ module _ (i : Problem) (s : IsInstance i) (g : ℕ) (ms : List Binomial) (t : Is
           InOrder-pairs Before (ms ++ new)
           (InOrder-append Before ms new (InOrder-from_pairs Before ms t.ordered) (InOrder-from_pairs Before new order)
           (λ m n c d. inl (omega (arith, (move_is_sound i g ms t m c).1, (of_new n d).1))))
+
+-- ---- over versions
+
+jobs_are_opened : (i : Problem) (k l : ℕ) → level_of i k ≡ upto l → opened_jobs i k ≡ jobs_at i (version_list i k) (suc l)
+unfolding opened_jobs
+jobs_are_opened i k l e = rw e (ap (jobs_at i (version_list i k)) (let same : l + 1 ≡ suc l = omega arith in same))
+
+is_list_at_level : (i : Problem) → IsInstance i → (k l : ℕ) → IsVersion i k → level_of i k ≡ upto l → IsTestList i l (version_list i k)
+is_list_at_level i s k l v e = (test_lists i s l (version_list i k)).0 (list_at_level i s k l v e)
+
+pub version_remainders : (i : Problem) → IsInstance i → (k d : ℕ) → IsVersion i k → opened_grade i k ≡ Some d →
+    (rs : List (Option (List ℕ × List ℕ))) → AreRemainders i (version_list i k) (opened_jobs i k) rs →
+    (m : Binomial) → (Contains (test_list i d) m × (grade_of i.columns m.head ≡ d)) ↔ IsGroupMove i (points_of rs) m
+version_remainders i s k d v e rs are m =
+    let o = opened_level (level_of i k) d e in
+    let same : suc o.0 ≡ d = omega (arith, o.2) in
+    subst (λ (g : ℕ). (Contains (test_list i g) m × (grade_of i.columns m.head ≡ g)) ↔ IsGroupMove i (points_of rs) m) same
+    (remainders_give_moves i s o.0 (version_list i k) (is_list_at_level i s k o.0 v o.1) rs
+    (subst (λ (jobs : List Job). AreRemainders i (version_list i k) jobs rs) (jobs_are_opened i k o.0 o.1) are) m)
+
+pub next_list_is : (i : Problem) → IsInstance i → (k : ℕ) → IsVersion i (suc k) →
+    (rs : List (Option (List ℕ × List ℕ))) → AreRemainders i (version_list i k) (opened_jobs i k) rs →
+    (new : List Binomial) → ((m : Binomial) → Contains new m ↔ IsGroupMove i (points_of rs) m) → AllPairs (λ m n. ComesBefore i m.head n.head) new →
+    version_list i k ++ new ≡ version_list i (suc k)
+next_list_is i s k v rs are new exact order =
+    let l : ℕ = v.0 in
+    new_moves_follow i s l (version_list i k) (is_list_at_level i s k l (version_before i k v) v.1) rs
+    (subst (λ (jobs : List Job). AreRemainders i (version_list i k) jobs rs) (jobs_are_opened i k l v.1) are) new exact order ∙
+    ap (test_list i) (let same : suc l ≡ l + 1 = omega arith in same) ∙ sym (list_next i k l v.1)

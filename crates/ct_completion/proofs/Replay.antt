@@ -1,23 +1,26 @@
 -- The state of a completion is the replay of its journal.
-use Rattle.std.proofs.Common.{ℕ, ◌+◌, ◌≤◌, ◌≡◌, ◌⊎◌, inl, inr, ⊎_elim, Bool, true, false, true≢false, ◌&&◌, nat_eq, cond, Decides, Option, Some, None, List, [], ◌∷◌, ◌++◌, length, map, count_by, Contains, refl, sym, subst, subst₂, ap, ap₂, ◌∙◌, arith, suc, append_assoc, append-nil, length-append, eqb-true, eq-eqb}
+use Rattle.std.proofs.Common.{ℕ, take, get_or, ◌+◌, ◌≤◌, ◌<◌, ◌≡◌, ◌⊎◌, inl, inr, ⊎_elim, Bool, true, false, true≢false, ◌&&◌, nat_eq, cond, Decides, Option, Some, None, List, [], ◌∷◌, ◌++◌, length, map, count_by, Contains, refl, sym, subst, subst₂, ap, ap₂, ◌∙◌, arith, suc, append_assoc, append-nil, length-append, eqb-true, eq-eqb}
 use Rattle.std.specs.List.Sorted.{IsPermutation}
 use Rattle.std.specs.Option.{option_map, option_to_list}
-use Rattle.std.proofs.lemmas.Bool.{and_parts, and_from}
-use Rattle.std.proofs.lemmas.List.{same_from_push}
+use Rattle.std.proofs.lemmas.Bool.{and_parts, and_from, cases_lt}
+use Rattle.std.proofs.Math.Seq.{take-append_seam}
+use Rattle.std.proofs.lemmas.List.{same_from_push, take-append-le, get_or_append_left, get_or_push}
 use Rattle.std.proofs.lemmas.List.Sorted.{IsPermutation-refl, IsPermutation-sym, IsPermutation-trans, IsPermutation-to_front, length_permutation, Contains-permutation}
 use Rattle.std.proofs.lemmas.List.Elements.{Contains-append_left, Contains-append_right, Contains-append_cases}
 use Rattle.ct_instance.specs.declared.jobs.Job.{Job}
 use Rattle.ct_instance.specs.declared.jobs.Job.TheVariants.{Generator, Pair}
-use Rattle.ct_instance.specs.Instance.{Problem}
+use Rattle.ct_instance.specs.Instance.{Problem, IsInstance}
 use Rattle.ct_instance.specs.TestSet.{test_list}
-use Rattle.ct_instance.specs.Versions.{Level, upto, everything, level_of, version_list, IsVersion}
+use Rattle.ct_instance.specs.Versions.{Level, upto, everything, level_of, version_list, IsVersion, IsFullGrade}
 use Rattle.ct_instance.specs.Reach.{grade_after, opened_grade}
 use Rattle.ct_instance.proofs.Lists.{Contains-here, Contains-there, Contains-nil, count_by-cons}
+use Rattle.ct_levels.proofs.Levels.{list_zero, list_next}
+use Rattle.ct_levels.proofs.Full.{opened_is_full}
 use Rattle.ct_completion.specs.declared.journals.Act.{Act}
 use Rattle.ct_completion.specs.declared.journals.Act.TheVariants.{Stored, Published, MarkedFull}
 use Rattle.ct_completion.specs.declared.journals.Entry.{Entry}
 use Rattle.ct_completion.specs.Machine.{CompletionState, CompletionEvent, hands_out, stores, already, publishes, marks_full, refuses, CompletionStep, CompletionRun, starts, goes_on, IsReady, just_opened, opened_jobs}
-use Rattle.ct_completion.specs.Journal.{act_of, acts_of, number_after, is_publishing, Replays, opens, acts, AreAlike, IsReplay}
+use Rattle.ct_completion.specs.Journal.{act_of, acts_of, number_after, is_publishing, Replays, opens, acts, AreAlike, IsReplay, AreSerials, entries_of}
 use Rattle.ct_completion.specs.Laws.{IsReached}
 use Rattle.ct_completion.proofs.Permutations.{split_at, take_from_both}
 
@@ -144,11 +147,15 @@ count_push [] event = omega (arith, count_by-cons is_publishing event [])
 count_push (e ∷ events) event =
     omega (arith, count_by-cons is_publishing e (events ++ event ∷ []), count_by-cons is_publishing e events, count_push events event)
 
-pub run_number : (i : Problem) (limit k : ℕ) (events : List CompletionEvent) (s : CompletionState) → CompletionRun i limit (just_opened i k) events s →
+run_number : (i : Problem) (limit k : ℕ) (events : List CompletionEvent) (s : CompletionState) → CompletionRun i limit (just_opened i k) events s →
     s.number ≡ k + count_by is_publishing events
 run_number i limit k events s starts = omega arith
 run_number i limit k events u (goes_on before t event v run step) =
     omega (arith, step_number i limit t event u step, number_counts t.number event, count_push before event, run_number i limit k before t run)
+
+pub run_counts : (i : Problem) (limit : ℕ) (events : List CompletionEvent) (s : CompletionState) → CompletionRun i limit (just_opened i 0) events s →
+    s.number ≡ count_by is_publishing events
+run_counts i limit events s run = omega (arith, run_number i limit 0 events s run)
 
 acts_push : (i : Problem) (k : ℕ) (events : List CompletionEvent) (event : CompletionEvent) →
     acts_of i k (events ++ event ∷ []) ≡ acts_of i k events ++ acts_of i (k + count_by is_publishing events) (event ∷ [])
@@ -282,21 +289,15 @@ replay_is_one i limit journal s t p q =
 
 -- ---- what holds of each state that is reached
 
-opened_level : (l : Level) (d : ℕ) → grade_after l ≡ Some d → (g : ℕ) × (l ≡ upto g) × (g + 1 ≡ d)
+pub opened_level : (l : Level) (d : ℕ) → grade_after l ≡ Some d → (g : ℕ) × (l ≡ upto g) × (g + 1 ≡ d)
 opened_level (upto g) d e = (g, refl, (let same : g + 1 ≡ d = cc in same))
 opened_level everything d e = absurd (cc)
 
--- the next version's list is the test list of the opened grade
-pub next_version_list : (i : Problem) (k d : ℕ) → opened_grade i k ≡ Some d → version_list i (suc k) ≡ test_list i d
-unfolding version_list
-next_version_list i k d e = let o = opened_level (level_of i k) d e in rw o.1 (ap (test_list i) o.2)
-
 reached_at_first : (i : Problem) (limit : ℕ) → IsReached i limit (just_opened i 0)
-unfolding version_list
-reached_at_first i limit = record { version = tt; most = omega arith; queued = λ j c. c; marked = λ e. absurd (true≢false (sym e)) }
+reached_at_first i limit = record { version = tt; most = omega (arith, ap length (list_zero i)); queued = λ j c. c; marked = λ e. absurd (true≢false (sym e)) }
 
-reached_next : (i : Problem) (limit : ℕ) (s : CompletionState) (event : CompletionEvent) (t : CompletionState) → IsReached i limit s → CompletionStep i limit s event t → IsReached i limit t
-reached_next i limit s (hands_out j) t r p =
+reached_next : (i : Problem) → IsInstance i → (limit : ℕ) (s : CompletionState) (event : CompletionEvent) (t : CompletionState) → IsReached i limit s → CompletionStep i limit s event t → IsReached i limit t
+reached_next i h limit s (hands_out j) t r p =
     subst (IsReached i limit) (sym p.2)
     (record {
       version = r.version;
@@ -304,7 +305,7 @@ reached_next i limit s (hands_out j) t r p =
       queued = λ k c. r.queued k (subst (λ (q : List Job). Contains q k) (sym p.1) (Contains-permutation (p.0 ++ j ∷ []) (j ∷ p.0) k (IsPermutation-to_front p.0 j) c));
       marked = λ e. let none : j ∷ p.0 ≡ [] = sym p.1 ∙ (r.marked e).0 in absurd (cc);
     })
-reached_next i limit s (stores j) t r p =
+reached_next i h limit s (stores j) t r p =
     subst (IsReached i limit) (sym p.3)
     (record {
       version = r.version;
@@ -315,28 +316,31 @@ reached_next i limit s (stores j) t r p =
           let l : length (p.0 ++ j ∷ p.1) ≡ 0 = ap length (sym p.2 ∙ (r.marked e).0) in
           absurd (omega (arith, length-append p.0 (j ∷ p.1)));
     })
-reached_next i limit s (already n j) t r p = subst (IsReached i limit) (sym p.1) r
-reached_next i limit s publishes t r p =
+reached_next i h limit s (already n j) t r p = subst (IsReached i limit) (sym p.1) r
+reached_next i h limit s publishes t r p =
     let o = opened_level (level_of i s.number) p.0 (p.1).opened in
     subst (IsReached i limit) (sym p.3)
     (record {
       version = (o.0, o.1);
-      most = subst (λ ms. length ms ≤ limit) (sym (next_version_list i s.number p.0 (p.1).opened)) p.2;
+      most = subst (λ ms. length ms ≤ limit) (sym (list_next i s.number o.0 o.1 ∙ ap (test_list i) o.2)) p.2;
       queued = λ k c. c;
       marked = λ e. absurd (true≢false (sym e));
     })
-reached_next i limit s marks_full t r p =
+reached_next i h limit s marks_full t r p =
+    let o = opened_level (level_of i s.number) p.0 (p.1).opened in
+    let full : IsFullGrade i limit p.0 =
+    subst (IsFullGrade i limit) o.2 (opened_is_full i h limit s.number o.0 r.version o.1 r.most (subst (λ (d : ℕ). limit < length (test_list i d)) (sym o.2) p.2)) in
     subst (IsReached i limit) (sym p.3)
-    (record { version = r.version; most = r.most; queued = λ k c. absurd (Contains-nil k c); marked = λ e. (refl, (p.0, (p.1).opened, p.2)) })
-reached_next i limit s refuses t r p = subst (IsReached i limit) (sym p) r
+    (record { version = r.version; most = r.most; queued = λ k c. absurd (Contains-nil k c); marked = λ e. (refl, (p.0, (p.1).opened, full)) })
+reached_next i h limit s refuses t r p = subst (IsReached i limit) (sym p) r
 
-replays_reached : (i : Problem) (limit : ℕ) (journal : List Entry) (s : CompletionState) → Replays i limit journal s → IsReached i limit s
-replays_reached i limit journal s opens = reached_at_first i limit
-replays_reached i limit journal s (acts entries r event entry t before e step) = reached_next i limit r event s (replays_reached i limit entries r before) step
+replays_reached : (i : Problem) → IsInstance i → (limit : ℕ) (journal : List Entry) (s : CompletionState) → Replays i limit journal s → IsReached i limit s
+replays_reached i h limit journal s opens = reached_at_first i limit
+replays_reached i h limit journal s (acts entries r event entry t before e step) = reached_next i h limit r event s (replays_reached i h limit entries r before) step
 
-pub replay_reached : (i : Problem) (limit : ℕ) (journal : List Entry) (s : CompletionState) → IsReplay i limit journal s → IsReached i limit s
-replay_reached i limit journal s p =
-    let r = replays_reached i limit journal p.replayed p.replays in
+pub replay_reached : (i : Problem) → IsInstance i → (limit : ℕ) (journal : List Entry) (s : CompletionState) → IsReplay i limit journal s → IsReached i limit s
+replay_reached i h limit journal s p =
+    let r = replays_reached i h limit journal p.replayed p.replays in
     record {
       version = subst (IsVersion i) (sym (p.alike).number) r.version;
       most = subst (λ (k : ℕ). length (version_list i k) ≤ limit) (sym (p.alike).number) r.most;
@@ -345,3 +349,22 @@ replay_reached i limit journal s p =
           let m = r.marked (sym (p.alike).full ∙ e) in
           (no_more (p.replayed).queue s.queue (IsPermutation-sym s.queue (p.replayed).queue (p.alike).queue) m.0, ((m.1).0, ap (opened_grade i) (p.alike).number ∙ (m.1).1, (m.1).2));
     }
+
+-- ---- serials
+
+abbrev counted : List Entry → Entry → Type 0
+counted before x = x.serial ≡ entries_of x.pass before
+
+pub serials_grow : (journal : List Entry) (entry : Entry) → AreSerials journal → entry.serial ≡ entries_of entry.pass journal → AreSerials (journal ++ entry ∷ [])
+serials_grow journal entry a e k d l = ⊎_elim earlier last (cases_lt k (length journal))
+  where
+    earlier : k < length journal → counted (take k (journal ++ entry ∷ [])) (get_or (journal ++ entry ∷ []) k d)
+    earlier m =
+        subst₂ counted (sym (take-append-le k journal (entry ∷ []) (omega arith))) (sym (get_or_append_left journal (entry ∷ []) d k m)) (a k d m)
+
+    last : length journal ≤ k → counted (take k (journal ++ entry ∷ [])) (get_or (journal ++ entry ∷ []) k d)
+    last m =
+        let same : k ≡ length journal = omega (arith, length-append journal (entry ∷ []), l) in
+        subst₂ counted
+        (sym (ap (λ (n : ℕ). take n (journal ++ entry ∷ [])) same ∙ take-append_seam journal (entry ∷ [])))
+        (sym (get_or_push journal entry d k (sym same))) e

@@ -1,6 +1,6 @@
 -- What holds of remainders, of completion runs and of journals. Each statement is the contract of a function in the
 -- module `laws`.
-use Rattle.std.specs.Prelude.{ℕ, ◌-◌, ◌≤◌, ◌<◌, ◌≡◌, ◌↔◌, true, Option, Some, List, [], ◌∷◌, ◌++◌, map, length, count_by, Contains, AllPairs, suc}
+use Rattle.std.specs.Prelude.{ℕ, ◌≤◌, ◌≡◌, ◌↔◌, Option, Some, List, [], ◌∷◌, ◌++◌, map, length, count_by, Contains, AllPairs, suc}
 use Rattle.ct_instance.specs.declared.jobs.Job.{Job}
 use Rattle.ct_instance.specs.Instance.{Problem, IsInstance, grade_of}
 use Rattle.ct_instance.specs.TestSet.{Binomial, IsTestList, ComesBefore, test_list}
@@ -11,29 +11,29 @@ use Rattle.ct_completion.specs.declared.journals.Entry.{Entry}
 use Rattle.ct_completion.specs.Machine.{CompletionState, CompletionEvent, CompletionStep, CompletionRun, just_opened, opened_jobs}
 use Rattle.ct_completion.specs.Journal.{acts_of, is_publishing, IsReplay, AreAlike, AreSerials, entries_of}
 use Rattle.ct_completion.specs.Remainders.{AreRemainders, points_of, IsGroupMove}
+use Rattle.ct_completion.specs.Kept.{IsMarkRight}
 
 -- ---- remainders
 
 -- the remainders of the jobs of a grade, against the test list of the grade before, in groups by degree: their moves
 -- are exactly the moves of the grade in its test list
-abbrev pub RemaindersGiveNewMoves : Type 0
-RemaindersGiveNewMoves =
+abbrev pub RemaindersGiveTestMoves : Type 0
+RemaindersGiveTestMoves =
     (i : Problem) → IsInstance i → (g : ℕ) (ms : List Binomial) → IsTestList i g ms →
     (remainders : List (Option (List ℕ × List ℕ))) → AreRemainders i ms (jobs_at i ms (suc g)) remainders →
     (m : Binomial) → (Contains (test_list i (suc g)) m × (grade_of i.columns m.head ≡ suc g)) ↔ IsGroupMove i (points_of remainders) m
 
--- put in order behind the list, they make the test list of the grade
-abbrev pub NewMovesMakeTestList : Type 0
-NewMovesMakeTestList =
-    (i : Problem) → IsInstance i → (g : ℕ) (ms : List Binomial) → IsTestList i g ms →
-    (remainders : List (Option (List ℕ × List ℕ))) → AreRemainders i ms (jobs_at i ms (suc g)) remainders →
-    (new : List Binomial) → ((m : Binomial) → Contains new m ↔ IsGroupMove i (points_of remainders) m) → AllPairs (λ m n. ComesBefore i m.head n.head) new →
-    ms ++ new ≡ test_list i (suc g)
+-- so do the remainders of the jobs that version k opens with the grade d
+abbrev pub RemaindersGiveNewMoves : Type 0
+RemaindersGiveNewMoves =
+    (i : Problem) → IsInstance i → (k d : ℕ) → IsVersion i k → opened_grade i k ≡ Some d →
+    (remainders : List (Option (List ℕ × List ℕ))) → AreRemainders i (version_list i k) (opened_jobs i k) remainders →
+    (m : Binomial) → (Contains (test_list i d) m × (grade_of i.columns m.head ≡ d)) ↔ IsGroupMove i (points_of remainders) m
 
--- and so they make the list of the next version
-abbrev pub NewMovesMakeNextVersion : Type 0
-NewMovesMakeNextVersion =
-    (i : Problem) → IsInstance i → (k d : ℕ) → opened_grade i k ≡ Some d → IsTestList i (d - 1) (version_list i k) →
+-- put in order behind the version's list, they make the list of the next version
+abbrev pub NewMovesMakeNextList : Type 0
+NewMovesMakeNextList =
+    (i : Problem) → IsInstance i → (k : ℕ) → IsVersion i (suc k) →
     (remainders : List (Option (List ℕ × List ℕ))) → AreRemainders i (version_list i k) (opened_jobs i k) remainders →
     (new : List Binomial) → ((m : Binomial) → Contains new m ↔ IsGroupMove i (points_of remainders) m) → AllPairs (λ m n. ComesBefore i m.head n.head) new →
     version_list i k ++ new ≡ version_list i (suc k)
@@ -62,16 +62,16 @@ JournalGrows =
     (i : Problem) (limit : ℕ) (journal : List Entry) (s : CompletionState) → IsReplay i limit journal s → (event : CompletionEvent) (t : CompletionState) →
     CompletionStep i limit s event t → (more : List Entry) → map (λ e. e.act) more ≡ acts_of i s.number (event ∷ []) → IsReplay i limit (journal ++ more) t
 
--- what holds of each state that a run reaches: there is such a version, its list is within the limit, the queue has jobs
--- of its opened grade, and where the state is marked full the queue is empty and the next list is above the limit
+-- what holds of each state that a journal leads to: there is such a version, its list is within the limit, the queue has
+-- jobs of its opened grade, and where the state is marked full the opened grade is
 pub record IsReached (i : Problem) (limit : ℕ) (s : CompletionState) : Type 0 where
   pub version : IsVersion i s.number
   pub most : length (version_list i s.number) ≤ limit
   pub queued : (j : Job) → Contains s.queue j → Contains (opened_jobs i s.number) j
-  pub marked : s.full ≡ true → (s.queue ≡ []) × ((d : ℕ) × (opened_grade i s.number ≡ Some d) × (limit < length (test_list i d)))
+  pub marked : IsMarkRight i limit s
 
 abbrev pub ReplaysAreReached : Type 0
-ReplaysAreReached = (i : Problem) (limit : ℕ) (journal : List Entry) (s : CompletionState) → IsReplay i limit journal s → IsReached i limit s
+ReplaysAreReached = (i : Problem) → IsInstance i → (limit : ℕ) (journal : List Entry) (s : CompletionState) → IsReplay i limit journal s → IsReached i limit s
 
 -- a serial that counts the earlier entries of its pass keeps the serials right
 abbrev pub SerialsGrow : Type 0

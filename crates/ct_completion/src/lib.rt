@@ -6,5 +6,6 @@
 #![tactic(auto)]
 
 mod journals;
+pub mod laws;
 
 pub use journals::{Act, Entry};

@@ -1,5 +1,6 @@
 pub mod Points
-pub mod Files
+pub mod Runs
+pub mod Endings
 pub mod Yields
 pub mod TooLong
 mod Worked

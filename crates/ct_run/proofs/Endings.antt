@@ -1,5 +1,5 @@
 -- What a run up to an ending or a stop says at the top call.
-use Rattle.std.proofs.Common.{◌≡◌, ℕ, ◌≤◌, ◌⊎◌, Bool, true, false, List, [], Option, Result, Ok, Err, inl, inr, refl, sym, ap, arith}
+use Rattle.std.proofs.Common.{◌≡◌, ℕ, ◌≤◌, true, List, [], Option, Result, Ok, Err, inl, inr, sym, ap, arith}
 use Rattle.std.specs.Prelude.{⊤}
 use Rattle.std.specs.Io.KnownBytes.{Appends}
 use Rattle.ct_outside.specs.Faults.{Rose}
@@ -10,7 +10,7 @@ use Rattle.ct_run.specs.declared.status.Status.{Status}
 use Rattle.ct_run.specs.declared.status.Status.TheVariants as statuses
 use Rattle.ct_run.specs.declared.stop.Stop.{Stop}
 use Rattle.ct_run.specs.declared.stop.Stop.TheVariants.{ReadFault, Memory}
-use Rattle.ct_run.specs.Outcome.{RunOutcome, status_of, Wrote, WroteFront, is_stop, IsUnlessStopped, IsUnlessMemory}
+use Rattle.ct_run.specs.Outcome.{Wrote, WroteFront, is_stop, IsUnlessStopped, IsUnlessMemory}
 use Rattle.ct_run.specs.Plan.{Plan}
 use Rattle.ct_run.specs.Running.{Ends, WouldEnd, ComesTo, Runs, HasReadFault, NoReadFault}
 use Rattle.ct_run.specs.Stopping.{Fits, StoppedBy, EndedBy, Ran, stop_status}

@@ -1,6 +1,4 @@
-pub mod Points
 pub mod Runs
 pub mod Endings
-pub mod Yields
 pub mod TooLong
 mod Worked

@@ -1,5 +1,5 @@
 -- What a run of a plan says of its outcome, its causes and the names that it comes to.
-use Rattle.std.proofs.Common.{◌≡◌, ℕ, ◌+◌, ◌⊎◌, List, [], ◌∷◌, take, Result, inl, inr, ⊎_elim, refl, sym, ap, subst, ◌∙◌}
+use Rattle.std.proofs.Common.{◌≡◌, ℕ, ◌+◌, List, [], ◌∷◌, take, Result, inl, inr, ⊎_elim, refl, sym, ap, subst, ◌∙◌}
 use Rattle.ct_outside.specs.Shelf.{Told, untold, absent, holds}
 use Rattle.ct_run.specs.Outcome.{RunOutcome}
 use Rattle.ct_input.specs.declared.fault.Fault.{Fault}

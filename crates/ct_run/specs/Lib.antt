@@ -6,4 +6,3 @@ pub mod Outcome
 pub mod Plan
 pub mod Running
 pub mod Stopping
-pub mod Reading

@@ -1,5 +1,5 @@
 -- What a run comes to, the status and the texts that fit it, and what may come in its place.
-use Rattle.std.specs.Prelude.{◌≡◌, ℕ, ◌++◌, ◌⊎◌, ⊤, Bool, true, false, List, Option, codes}
+use Rattle.std.specs.Prelude.{◌≡◌, ℕ, ◌++◌, ◌⊎◌, Bool, true, false, List, Option, codes}
 use Rattle.std.specs.Io.KnownBytes.{Appends}
 use Rattle.ct_outside.specs.Sink.{AppendsFront}
 use Rattle.ct_instance.specs.Instance.{Problem}

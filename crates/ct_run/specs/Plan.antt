@@ -4,7 +4,6 @@ use Rattle.std.specs.declared.alloc.Global.{Global}
 use Rattle.ct_input.specs.declared.fault.Fault.{Fault}
 use Rattle.ct_input.specs.Files.{instance_file, session_file}
 use Rattle.ct_instance.specs.Instance.{Problem}
-use Rattle.ct_input.specs.declared.script.Script.{Script}
 use Rattle.ct_run.specs.Words.{Command, answer, command_of}
 use Rattle.ct_run.specs.Outcome.{RunOutcome, usage, bad_instance, bad_sessions, answered}
 

@@ -2,7 +2,7 @@
 ghost use Rattle.std.specs.Prelude.{IfOk};
 ghost use Rattle.ct_run.specs.Outcome.{usage, bad_instance, bad_sessions, answered};
 ghost use Rattle.ct_run.specs.Stopping.{Fits};
-ghost use Rattle.ct_run.specs.Reading.{IsScript};
+ghost use Rattle.ct_input.specs.Script.{IsScript};
 
 use crate::report::push_report;
 use crate::status::Status;

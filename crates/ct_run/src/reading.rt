@@ -7,10 +7,6 @@ use crate::stop::Stop;
 use ct_outside::{FetchFault, Shelf};
 use std::alloc::Global;
 
-pub const INSTANCE_LIMIT: u64 = 1_048_576;
-
-pub const SESSIONS_LIMIT: u64 = 16_777_216;
-
 /// The bytes of the file of this name, of a longer one the first `limit + 1`.
 pub fn file_at<S: Shelf>(
     alloc: Global,

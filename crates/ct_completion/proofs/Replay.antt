@@ -147,17 +147,13 @@ count_push [] event = omega (arith, count_by-cons is_publishing event [])
 count_push (e ∷ events) event =
     omega (arith, count_by-cons is_publishing e (events ++ event ∷ []), count_by-cons is_publishing e events, count_push events event)
 
-run_number : (i : Problem) (limit k : ℕ) (events : List CompletionEvent) (s : CompletionState) → CompletionRun i limit (just_opened i k) events s →
-    s.number ≡ k + count_by is_publishing events
-run_number i limit k events s starts = omega arith
-run_number i limit k events u (goes_on before t event v run step) =
-    omega (arith, step_number i limit t event u step, number_counts t.number event, count_push before event, run_number i limit k before t run)
+pub run_number : (i : Problem) (limit : ℕ) (s : CompletionState) (events : List CompletionEvent) (t : CompletionState) → CompletionRun i limit s events t →
+    t.number ≡ s.number + count_by is_publishing events
+run_number i limit s events t starts = omega arith
+run_number i limit s events u (goes_on before t event v run step) =
+    omega (arith, step_number i limit t event u step, number_counts t.number event, count_push before event, run_number i limit s before t run)
 
-pub run_counts : (i : Problem) (limit : ℕ) (events : List CompletionEvent) (s : CompletionState) → CompletionRun i limit (just_opened i 0) events s →
-    s.number ≡ count_by is_publishing events
-run_counts i limit events s run = omega (arith, run_number i limit 0 events s run)
-
-acts_push : (i : Problem) (k : ℕ) (events : List CompletionEvent) (event : CompletionEvent) →
+pub acts_push : (i : Problem) (k : ℕ) (events : List CompletionEvent) (event : CompletionEvent) →
     acts_of i k (events ++ event ∷ []) ≡ acts_of i k events ++ acts_of i (k + count_by is_publishing events) (event ∷ [])
 acts_push i k [] event = ap (λ (n : ℕ). acts_of i n (event ∷ [])) (let e : k ≡ k + count_by is_publishing [] = omega arith in e)
 acts_push i k (e ∷ events) event =
@@ -219,17 +215,21 @@ journal_grows i limit journal s r marks_full t p more m =
     written i limit journal s r marks_full t p more (MarkedFull p.0) e (m ∙ ap (λ o. option_to_list o ++ []) e)
 journal_grows i limit journal s r refuses t p more m = unwritten i limit journal s t r (alike_from_same t s p) more m
 
+pub run_grows : (i : Problem) (limit : ℕ) (journal : List Entry) (s : CompletionState) → IsReplay i limit journal s →
+    (events : List CompletionEvent) (t : CompletionState) → CompletionRun i limit s events t → (more : List Entry) → map (λ e. e.act) more ≡ acts_of i s.number events →
+    IsReplay i limit (journal ++ more) t
+run_grows i limit journal s r events t starts more m = unwritten i limit journal s s r (alike_itself s) more m
+run_grows i limit journal s r events u (goes_on before t event v run step) more m =
+    let parts = map_parts (λ (x : Entry). x.act) more (acts_of i s.number before) (acts_of i t.number (event ∷ []))
+    (m ∙ acts_push i s.number before event ∙
+    ap (λ (n : ℕ). acts_of i s.number before ++ acts_of i n (event ∷ [])) (sym (run_number i limit s before t run))) in
+    subst (λ (x : List Entry). IsReplay i limit x u) (append_assoc journal parts.0 parts.1 ∙ ap (λ (x : List Entry). journal ++ x) (sym parts.2))
+    (journal_grows i limit (journal ++ parts.0) t (run_grows i limit journal s r before t run parts.0 parts.3) event u step parts.1 parts.4)
+
 pub state_is_replay : (i : Problem) (limit : ℕ) (events : List CompletionEvent) (s : CompletionState) → CompletionRun i limit (just_opened i 0) events s →
     (journal : List Entry) → map (λ e. e.act) journal ≡ acts_of i 0 events → IsReplay i limit journal s
-state_is_replay i limit events s starts journal m =
-    subst (λ (x : List Entry). IsReplay i limit x (just_opened i 0)) (sym (map_none (λ (x : Entry). x.act) journal m))
-    (record { replayed = just_opened i 0; replays = opens; alike = alike_itself (just_opened i 0) })
-state_is_replay i limit events u (goes_on before t event v run step) journal m =
-    let number : 0 + count_by is_publishing before ≡ t.number = sym (run_number i limit 0 before t run) in
-    let parts = map_parts (λ (x : Entry). x.act) journal (acts_of i 0 before) (acts_of i t.number (event ∷ []))
-    (m ∙ acts_push i 0 before event ∙ ap (λ (n : ℕ). acts_of i 0 before ++ acts_of i n (event ∷ [])) number) in
-    subst (λ (x : List Entry). IsReplay i limit x u) (sym parts.2)
-    (journal_grows i limit parts.0 t (state_is_replay i limit before t run parts.0 parts.3) event u step parts.1 parts.4)
+state_is_replay i limit events s run journal m =
+    run_grows i limit [] (just_opened i 0) (record { replayed = just_opened i 0; replays = opens; alike = alike_itself (just_opened i 0) }) events s run journal m
 
 -- ---- a journal has one replay
 

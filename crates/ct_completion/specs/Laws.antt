@@ -1,6 +1,6 @@
 -- What holds of remainders, of completion runs and of journals. Each statement is the contract of a function in the
 -- module `laws`.
-use Rattle.std.specs.Prelude.{ℕ, ◌≤◌, ◌≡◌, ◌↔◌, Option, Some, List, [], ◌∷◌, ◌++◌, map, length, count_by, Contains, AllPairs, suc}
+use Rattle.std.specs.Prelude.{ℕ, ◌+◌, ◌≤◌, ◌≡◌, ◌↔◌, Option, Some, List, [], ◌∷◌, ◌++◌, map, length, count_by, Contains, AllPairs, suc}
 use Rattle.ct_instance.specs.declared.jobs.Job.{Job}
 use Rattle.ct_instance.specs.Instance.{Problem, IsInstance, grade_of}
 use Rattle.ct_instance.specs.TestSet.{Binomial, IsTestList, ComesBefore, test_list}
@@ -8,7 +8,7 @@ use Rattle.ct_instance.specs.Jobs.{jobs_at}
 use Rattle.ct_instance.specs.Versions.{version_list, IsVersion}
 use Rattle.ct_instance.specs.Reach.{opened_grade}
 use Rattle.ct_completion.specs.declared.journals.Entry.{Entry}
-use Rattle.ct_completion.specs.Machine.{CompletionState, CompletionEvent, CompletionStep, CompletionRun, just_opened, opened_jobs}
+use Rattle.ct_completion.specs.Machine.{CompletionState, CompletionEvent, CompletionRun, just_opened, opened_jobs}
 use Rattle.ct_completion.specs.Journal.{acts_of, is_publishing, IsReplay, AreAlike, AreSerials, entries_of}
 use Rattle.ct_completion.specs.Remainders.{AreRemainders, points_of, IsGroupMove}
 use Rattle.ct_completion.specs.Kept.{IsMarkRight}
@@ -40,27 +40,29 @@ NewMovesMakeNextList =
 
 -- ---- runs and journals
 
--- over a run from the opening, the number counts the publishing events
+-- over a run the number grows by the count of publishing events; from the opening, where it is 0, it is that count
 abbrev pub NumberCountsPublishing : Type 0
 NumberCountsPublishing =
-    (i : Problem) (limit : ℕ) (events : List CompletionEvent) (s : CompletionState) → CompletionRun i limit (just_opened i 0) events s → s.number ≡ count_by is_publishing events
+    (i : Problem) (limit : ℕ) (s : CompletionState) (events : List CompletionEvent) (t : CompletionState) → CompletionRun i limit s events t →
+    t.number ≡ s.number + count_by is_publishing events
 
--- and the state is the replay of any journal that the run is written down in
+-- the state after a run from the opening is the replay of any journal that the run is written down in
 abbrev pub StateIsReplay : Type 0
 StateIsReplay =
     (i : Problem) (limit : ℕ) (events : List CompletionEvent) (s : CompletionState) → CompletionRun i limit (just_opened i 0) events s →
     (journal : List Entry) → map (λ e. e.act) journal ≡ acts_of i 0 events → IsReplay i limit journal s
 
+-- and a run from a state that is the replay of a journal makes it longer by what the run is written down as
+abbrev pub JournalGrows : Type 0
+JournalGrows =
+    (i : Problem) (limit : ℕ) (journal : List Entry) (s : CompletionState) → IsReplay i limit journal s →
+    (events : List CompletionEvent) (t : CompletionState) → CompletionRun i limit s events t →
+    (more : List Entry) → map (λ e. e.act) more ≡ acts_of i s.number events → IsReplay i limit (journal ++ more) t
+
 -- a journal has one replay at most
 abbrev pub ReplayIsOne : Type 0
 ReplayIsOne =
     (i : Problem) (limit : ℕ) (journal : List Entry) (s t : CompletionState) → IsReplay i limit journal s → IsReplay i limit journal t → AreAlike s t
-
--- an event that is written down makes the journal longer by its act, and no other changes the journal
-abbrev pub JournalGrows : Type 0
-JournalGrows =
-    (i : Problem) (limit : ℕ) (journal : List Entry) (s : CompletionState) → IsReplay i limit journal s → (event : CompletionEvent) (t : CompletionState) →
-    CompletionStep i limit s event t → (more : List Entry) → map (λ e. e.act) more ≡ acts_of i s.number (event ∷ []) → IsReplay i limit (journal ++ more) t
 
 -- what holds of each state that a journal leads to: there is such a version, its list is within the limit, the queue has
 -- jobs of its opened grade, and where the state is marked full the opened grade is

@@ -12,11 +12,11 @@ pub fn remainders_give_the_new_moves()
 {}
 
 /// Over each run of a completion from its opening the number of the version counts what was published, and the state
-/// is the replay of the journal, apart from the order of the queue.
+/// is the replay of the journal, apart from the order of the queue. A journal has at most one replay.
 pub fn state_is_the_replay()
     ensures number { NumberCountsPublishing }
     ensures state { StateIsReplay }
-    ensures step { JournalGrows }
+    ensures journal { JournalGrows }
     ensures one { ReplayIsOne }
 {}
 

@@ -1,4 +1,5 @@
 -- Costs place by place, and how large they grow.
+use Rattle.ct_vectors.specs.declared.limits.TheConstants.{COST_LIMIT, JOB_GRADE_LIMIT}
 use Rattle.std.proofs.Common.{◌≡◌, ℕ, ℤ, pos, ◌+ℤ◌, ◌*ℤ◌, ◌+◌, ◌*◌, ◌≤◌, ◌<◌, List, ◌∷◌, length, drop, get_or, sym, ap, ◌∙◌, arith, nat_abs}
 use Rattle.std.proofs.Math.IntN.{+ℤ_assoc}
 use Rattle.std.proofs.lemmas.List.{drop_more}
@@ -12,12 +13,12 @@ mul_both : (a b m n : ℕ) → a ≤ m → b ≤ n → a * b ≤ m * n
 mul_both a b m n h k = grind arith
 
 -- one product more, within its limits
-pub abs-product : (sum c : ℤ) (x i : ℕ) → nat_abs sum ≤ i * 32000000000000000000000000 → nat_abs c ≤ 1000000000000 → x ≤ 32000000000000 →
-    nat_abs (sum +ℤ (c *ℤ pos x)) ≤ (i + 1) * 32000000000000000000000000
+pub abs-product : (sum c : ℤ) (x i : ℕ) → nat_abs sum ≤ i * (COST_LIMIT * JOB_GRADE_LIMIT) → nat_abs c ≤ COST_LIMIT → x ≤ JOB_GRADE_LIMIT →
+    nat_abs (sum +ℤ (c *ℤ pos x)) ≤ (i + 1) * (COST_LIMIT * JOB_GRADE_LIMIT)
 abs-product sum c x i small c-limit x-limit =
     let split : nat_abs (sum +ℤ (c *ℤ pos x)) ≤ nat_abs sum + nat_abs (c *ℤ pos x) = abs-add sum (c *ℤ pos x) in
     let product : nat_abs (c *ℤ pos x) ≡ nat_abs c * x = unsigned_abs-mul c (pos x) in
-    let limit : nat_abs c * x ≤ 1000000000000 * 32000000000000 = mul_both (nat_abs c) x 1000000000000 32000000000000 c-limit x-limit in
+    let limit : nat_abs c * x ≤ COST_LIMIT * JOB_GRADE_LIMIT = mul_both (nat_abs c) x COST_LIMIT JOB_GRADE_LIMIT c-limit x-limit in
     omega arith
 
 -- the cost of what is left is the first product and the cost of the rest

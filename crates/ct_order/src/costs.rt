@@ -1,4 +1,5 @@
 ghost use Rattle.std.specs.Prelude.{◌≡◌, ℤ, ◌≤◌, List, length, nat_abs, All, IfOk};
+ghost use Rattle.ct_vectors.specs.declared.limits.TheConstants.{COLUMN_LIMIT, COST_LIMIT};
 
 use std::alloc::{AllocError, Global};
 use std::marker::Model;
@@ -16,15 +17,15 @@ impl Model for Costs {
 
     ghost view = { λ c. c.costs.items };
 
-    ghost invariant = { λ c. (1 ≤ length c.costs.items) × (length c.costs.items ≤ 64) × All (λ x. nat_abs x ≤ 1000000000000) c.costs.items };
+    ghost invariant = { λ c. (1 ≤ length c.costs.items) × (length c.costs.items ≤ COLUMN_LIMIT) × All (λ x. nat_abs x ≤ COST_LIMIT) c.costs.items };
 }
 
 impl Costs {
     /// Costs for 1 to 64 columns.
     pub fn new(alloc: Global, c: &[i64]) -> Result<Costs, AllocError>
         requires some { 1 ≤ length c.now }
-        requires most { length c.now ≤ 64 }
-        requires limit { All (λ x. nat_abs x ≤ 1000000000000) c.now }
+        requires most { length c.now ≤ COLUMN_LIMIT }
+        requires limit { All (λ x. nat_abs x ≤ COST_LIMIT) c.now }
         ensures { IfOk result (λ costs. costs ≡ c.now) }
     {
         let costs = c.to_vec(alloc)?;
@@ -35,8 +36,8 @@ impl Costs {
     pub fn as_slice(&self) -> &[i64]
         ensures costs { result.now ≡ self.now }
         ensures some { 1 ≤ length result.now }
-        ensures most { length result.now ≤ 64 }
-        ensures limit { All (λ x. nat_abs x ≤ 1000000000000) result.now }
+        ensures most { length result.now ≤ COLUMN_LIMIT }
+        ensures limit { All (λ x. nat_abs x ≤ COST_LIMIT) result.now }
     {
         self.costs.as_slice()
     }

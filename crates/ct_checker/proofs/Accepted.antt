@@ -11,9 +11,9 @@ use Rattle.ct_instance.specs.Fiber.{IsInFiber, IsLeast}
 use Rattle.ct_instance.specs.Answer.{outcome_of, answer_of}
 use Rattle.ct_instance.specs.TestSet.{Binomial, IsTestList}
 use Rattle.ct_instance.specs.Walk.{IsNormal, AreMoves, Leads, stay, step, moved, IsWalk, ends, walks}
-use Rattle.ct_instance.specs.Jobs.{the_move, IsJob, job_degree_of, job_grade_of, first_end_of, second_end_of, IsCoprime, jobs_at}
+use Rattle.ct_instance.specs.Jobs.{the_move, IsJob, job_degree_of, job_grade_of, first_end_of, second_end_of, IsCoprime, jobs_at, jobs_up_to}
 use Rattle.ct_instance.proofs.Lists.{Contains-map, map_gives, Contains-flat_map, flat_map_gives}
-use Rattle.ct_instance.proofs.JobsList.{jobs_of_grade_listed}
+use Rattle.ct_instance.proofs.JobsList.{jobs_up_to_listed}
 use Rattle.ct_instance.proofs.Fiber.{start_in_fiber, is_least_of, one_least}
 use Rattle.ct_walk.specs.Laws.{HasOneNormalPoint, AreJoined, JobsAreJoined}
 use Rattle.ct_walk.specs.Moves.{CanApply, Follows}
@@ -23,24 +23,9 @@ use Rattle.ct_walk.proofs.Ends.{the_move_at, the_move_is, ends_in_fiber}
 use Rattle.ct_walk.proofs.Pairs.{graded_critical_pairs}
 use Rattle.ct_checker.specs.Ledgers.{LedgerEntryValue, coprime, LedgerValue}
 use Rattle.ct_checker.specs.Ledgers as ledgers
-use Rattle.ct_checker.specs.Accepted.{jobs_up_to, job_of, IsLedgerMove, AreWalks, IsEntryRight, IsAccepted}
+use Rattle.ct_checker.specs.Accepted.{job_of, IsLedgerMove, AreWalks, IsEntryRight, IsAccepted}
 use Rattle.ct_checker.specs.Certified.{IsCertifiedEntry, IsCertified}
 use Rattle.ct_checker.specs.Laws.{IsOfSize}
-
--- ---- the jobs up to a grade
-
-pub jobs_up_to_has : (i : Problem) (ms : List Binomial) (g : ℕ) (j : Job) → IsJob i ms j → job_grade_of i ms j ≤ g → Contains (jobs_up_to i ms g) j
-unfolding jobs_up_to
-jobs_up_to_has i ms g j k l =
-    Contains-flat_map (jobs_at i ms) (up_to g) (job_grade_of i ms j) j (Contains-up_to g (job_grade_of i ms j) l)
-    (((jobs_of_grade_listed i ms (job_grade_of i ms j)).0 j).1 (k, refl))
-
-pub jobs_up_to_gives : (i : Problem) (ms : List Binomial) (g : ℕ) (j : Job) → Contains (jobs_up_to i ms g) j → IsJob i ms j × (job_grade_of i ms j ≤ g)
-unfolding jobs_up_to
-jobs_up_to_gives i ms g j c =
-    let r = flat_map_gives (jobs_at i ms) (up_to g) j c in
-    let t = ((jobs_of_grade_listed i ms r.0).0 j).0 r.2 in
-    (t.0, omega (arith, t.1, le-up_to g r.0 r.1))
 
 -- ---- steps that are named are free steps
 
@@ -84,7 +69,7 @@ module _ (i : Problem) (s : IsInstance i) (l : LedgerValue) (sizes : All (IsOfSi
 
   ledger_joins : (top : List ℕ) → JobsAreJoined i l.moves l.grade top
   ledger_joins top j k w n =
-      let c = map_gives job_of l.entries j (subst (λ (js : List Job). Contains js j) (sym a.jobs) (jobs_up_to_has i l.moves l.grade j k w.grade)) in
+      let c = map_gives job_of l.entries j (subst (λ (js : List Job). Contains js j) (sym a.jobs) (((jobs_up_to_listed i l.moves l.grade).0 j).1 (k, w.grade))) in
       entry_joins j c.0 c.2 (All-contains (IsEntryRight i l.moves) l.entries c.0 a.right c.1) n
 
   pub ledger_decides : (b : List ℕ) → IsRight i b → total b ≤ l.grade → HasOneNormalPoint i l.moves b
@@ -152,5 +137,5 @@ module _ (i : Problem) (s : IsInstance i) (g : ℕ) (ms : List Binomial) (t : Is
     where
       right : (e : LedgerEntryValue) → Contains l.entries e → IsCertifiedEntry i ms e → IsEntryRight i ms e
       right e m k =
-          let u = jobs_up_to_gives i ms g (job_of e) (subst (λ (js : List Job). Contains js (job_of e)) c.jobs (Contains-map job_of l.entries e m)) in
+          let u = ((jobs_up_to_listed i ms g).0 (job_of e)).0 (subst (λ (js : List Job). Contains js (job_of e)) c.jobs (Contains-map job_of l.entries e m)) in
           entry_right e u.0 u.1 k

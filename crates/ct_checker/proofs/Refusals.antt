@@ -16,12 +16,12 @@ use Rattle.ct_instance.specs.Instance.{Problem, column_count, degree_of, grade_o
 use Rattle.ct_instance.specs.Fiber.{is_lower}
 use Rattle.ct_instance.specs.TestSet.{Binomial}
 use Rattle.ct_instance.specs.Walk.{moved}
-use Rattle.ct_instance.specs.Jobs.{the_move, first_end_of, second_end_of, IsCoprime}
+use Rattle.ct_instance.specs.Jobs.{the_move, first_end_of, second_end_of, IsCoprime, jobs_up_to}
 use Rattle.ct_walk.specs.Moves.{CanApply, Follows}
 use Rattle.ct_checker.specs.declared.verdicts.Reason.{Reason}
 use Rattle.ct_checker.specs.declared.verdicts.Reason.TheVariants.{Size, Grade, Degree, Order, Entry, Coprime, End}
 use Rattle.ct_checker.specs.Ledgers.{LedgerEntryValue, coprime, walks, LedgerValue}
-use Rattle.ct_checker.specs.Accepted.{jobs_up_to, job_of, IsLedgerMove, AreWalks, IsEntryRight, IsAccepted}
+use Rattle.ct_checker.specs.Accepted.{job_of, IsLedgerMove, AreWalks, IsEntryRight, IsAccepted}
 use Rattle.ct_checker.specs.Refusals.{same_numbers, same_job, is_coprime, can_apply, end_of_steps, move_reason, walks_reason, words_reason, entry_reason, refused_move, refused_entry, refused_size, first_refusal_of}
 
 -- ---- the tests

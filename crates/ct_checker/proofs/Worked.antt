@@ -3,10 +3,9 @@ use Rattle.std.proofs.Common.{ℕ, ◌+◌, pos, ◌≡◌, Some, None, List, []
 use Rattle.ct_instance.specs.declared.jobs.Job.TheVariants.{Generator, Pair}
 use Rattle.ct_instance.specs.Instance.{Problem}
 use Rattle.ct_instance.specs.TestSet.{Binomial}
-use Rattle.ct_instance.specs.Jobs.{all_jobs, jobs_at}
+use Rattle.ct_instance.specs.Jobs.{all_jobs, jobs_at, jobs_up_to}
 use Rattle.ct_checker.specs.declared.verdicts.Reason.TheVariants.{Size, Grade, Degree, Order, Entry, Coprime, Step, End}
 use Rattle.ct_checker.specs.Ledgers.{LedgerEntryValue, coprime, walks, LedgerValue}
-use Rattle.ct_checker.specs.Accepted.{jobs_up_to}
 use Rattle.ct_checker.specs.Refusals.{first_refusal_of}
 
 abbrev coins : Problem

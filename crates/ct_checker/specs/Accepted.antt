@@ -1,18 +1,12 @@
 -- When a ledger is accepted.
 use Rattle.std.specs.Prelude.{ℕ, ◌≤◌, ◌≡◌, List, map, All}
-use Rattle.std.specs.List.{flat_map}
-use Rattle.ct_vectors.specs.Vectors.{up_to}
 use Rattle.ct_instance.specs.declared.jobs.Job.{Job}
 use Rattle.ct_instance.specs.Instance.{Problem, column_count, degree_of, grade_of}
 use Rattle.ct_instance.specs.Fiber.{IsBelow}
 use Rattle.ct_instance.specs.TestSet.{Binomial}
-use Rattle.ct_instance.specs.Jobs.{first_end_of, second_end_of, IsCoprime, jobs_at}
+use Rattle.ct_instance.specs.Jobs.{first_end_of, second_end_of, IsCoprime, jobs_up_to}
 use Rattle.ct_walk.specs.Moves.{Follows}
 use Rattle.ct_checker.specs.Ledgers.{LedgerEntryValue, coprime, walks, LedgerValue}
-
--- the jobs of grade at most g, by grade and then in job order
-unfoldable pub jobs_up_to : Problem → List Binomial → ℕ → List Job
-jobs_up_to i ms g = flat_map (jobs_at i ms) (up_to g)
 
 abbrev pub job_of : LedgerEntryValue → Job
 job_of (coprime j) = j

@@ -3,9 +3,9 @@ use Rattle.std.specs.Prelude.{ℕ, ◌≡◌, List, map, All}
 use Rattle.ct_instance.specs.Instance.{Problem, column_count}
 use Rattle.ct_instance.specs.TestSet.{Binomial}
 use Rattle.ct_instance.specs.Walk.{IsWalk}
-use Rattle.ct_instance.specs.Jobs.{first_end_of, second_end_of, IsCoprime}
+use Rattle.ct_instance.specs.Jobs.{first_end_of, second_end_of, IsCoprime, jobs_up_to}
 use Rattle.ct_checker.specs.Ledgers.{LedgerEntryValue, coprime, walks, LedgerValue}
-use Rattle.ct_checker.specs.Accepted.{job_of, jobs_up_to}
+use Rattle.ct_checker.specs.Accepted.{job_of}
 
 -- the steps are the walk of p by the list
 abbrev pub IsWalkOf : List Binomial → List ℕ → List (ℕ × ℕ) → Type 0

@@ -10,11 +10,11 @@ use Rattle.ct_instance.specs.Instance.{Problem, column_count, degree_of, grade_o
 use Rattle.ct_instance.specs.Fiber.{is_lower}
 use Rattle.ct_instance.specs.TestSet.{Binomial}
 use Rattle.ct_instance.specs.Walk.{moved}
-use Rattle.ct_instance.specs.Jobs.{the_move, first_end_of, second_end_of}
+use Rattle.ct_instance.specs.Jobs.{the_move, first_end_of, second_end_of, jobs_up_to}
 use Rattle.ct_checker.specs.declared.verdicts.Reason.{Reason}
 use Rattle.ct_checker.specs.declared.verdicts.Reason.TheVariants.{Size, Grade, Degree, Order, Entry, Coprime, Step, End}
 use Rattle.ct_checker.specs.Ledgers.{LedgerEntryValue, coprime, walks, LedgerValue}
-use Rattle.ct_checker.specs.Accepted.{job_of, jobs_up_to}
+use Rattle.ct_checker.specs.Accepted.{job_of}
 
 abbrev pub same_numbers : List ℕ → List ℕ → Bool
 same_numbers p q = pointwise nat_eq p q

@@ -1,4 +1,4 @@
-ghost use Rattle.std.specs.Prelude.{◌≡◌, ◌≢◌, ◌+◌, ◌-◌, ◌*◌, ◌<◌, ◌≤◌, ◌++◌, [], ◌∷◌, None, Some, IsOk, length, All, slice_index, IfOk, IfErr};
+ghost use Rattle.std.specs.Prelude.{◌≡◌, ◌≢◌, ◌+◌, ◌-◌, ◌*◌, ◌<◌, ◌≤◌, ◌++◌, [], ◌∷◌, None, Some, IsOk, length, map, All, slice_index, IfOk, IfErr};
 ghost use Rattle.ct_vectors.specs.Vectors.{total, zeros};
 
 use crate::making::{check_costs, check_entries, check_sums, columns_from, sums_of};
@@ -141,6 +141,15 @@ impl Instance {
         ensures positive { 1 ≤ total result.now }
     {
         &self.columns[col - 1]
+    }
+
+    /// The sum of each column, in order.
+    pub fn sums(&self) -> &[u64]
+        ensures sums { result.now ≡ map total self.now.columns }
+        ensures count { length result.now ≡ column_count self.now }
+        ensures instance { IsInstance self.now }
+    {
+        &self.sums
     }
 
     /// The grade, for a point whose coordinates are within the limit of what may come up: it is below 2^128. It is

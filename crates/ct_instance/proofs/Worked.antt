@@ -1,10 +1,12 @@
 -- The definitions on worked examples, by computation: two coins of 3 and 5 at cost 2 and 3, and a tie.
 use Rattle.std.proofs.Common.{Bool, false, filter, take, length, ap, ◌++◌, length-append, ℕ, Some, None, pos, nat_abs, ◌≤◌, ◌≡◌, List, [], ◌∷◌, map, refl, arith, lit≤}
 use Rattle.std.proofs.lemmas.List.Elements.{All-from_recursion}
+use Rattle.ct_vectors.specs.declared.limits.TheConstants.{ENTRY_LIMIT, COST_LIMIT}
 use Rattle.ct_vectors.specs.Vectors.{disjoint}
+use Rattle.ct_order.specs.Costs.{IsCostRow}
 use Rattle.ct_instance.specs.declared.jobs.Job.{Job}
 use Rattle.ct_instance.specs.declared.jobs.Job.TheVariants.{Generator, Pair}
-use Rattle.ct_instance.specs.Instance.{grade_of, Problem, IsColumn, IsCostRow, IsInstance}
+use Rattle.ct_instance.specs.Instance.{grade_of, Problem, IsColumn, IsInstance}
 use Rattle.ct_instance.specs.Fiber.{fiber_of, least_of}
 use Rattle.ct_instance.specs.Answer.{optimum, infeasible, answer_of}
 use Rattle.ct_instance.specs.TestSet.{Binomial, lists_of, test_moves_at, test_list}
@@ -143,9 +145,10 @@ coins_is_instance = record {
   column_limit = lit≤ tt;
   is_column = All-from_recursion (IsColumn 1) coins.columns (column 3 (lit≤ tt) (lit≤ tt), (column 5 (lit≤ tt) (lit≤ tt), tt));
   some_cost_row = lit≤ tt;
+  cost_row_limit = lit≤ tt;
   is_cost_row = All-from_recursion (IsCostRow 2) coins.cost_rows
-      (record { entries = refl; limit = All-from_recursion (λ c. nat_abs c ≤ 1000000000000) (pos 2 ∷ pos 3 ∷ []) (lit≤ tt, (lit≤ tt, tt)) }, tt);
+      (record { entries = refl; limit = All-from_recursion (λ c. nat_abs c ≤ COST_LIMIT) (pos 2 ∷ pos 3 ∷ []) (lit≤ tt, (lit≤ tt, tt)) }, tt);
 }
   where
-    column : (a : ℕ) → a ≤ 1000000 → 1 ≤ a → IsColumn 1 (a ∷ [])
-    column a l k = record { entries = refl; limit = All-from_recursion (λ c. c ≤ 1000000) (a ∷ []) (l, tt); positive = omega arith }
+    column : (a : ℕ) → a ≤ ENTRY_LIMIT → 1 ≤ a → IsColumn 1 (a ∷ [])
+    column a l k = record { entries = refl; limit = All-from_recursion (λ c. c ≤ ENTRY_LIMIT) (a ∷ []) (l, tt); positive = omega arith }

@@ -14,7 +14,7 @@ use Rattle.ct_instance.specs.Versions.{version_list, IsVersion}
 use Rattle.ct_instance.specs.Reach.{opened_grade, last_opened}
 use Rattle.ct_instance.proofs.Lists.{map_gives}
 use Rattle.ct_instance.proofs.Degree.{grade-add, grade-divides}
-use Rattle.ct_instance.proofs.Grades.{total-limit}
+use Rattle.ct_vectors.proofs.Sums.{total-limit}
 use Rattle.ct_instance.proofs.TestList.{move_is_sound}
 use Rattle.ct_instance.proofs.JobsList.{jobs_listed}
 use Rattle.ct_instance.proofs.Above.{least_above_some}

@@ -9,4 +9,6 @@ pub mod Grades
 pub mod Entries
 pub mod JobsList
 pub mod Above
+pub mod Points
 mod Worked
+mod WorkedRows

@@ -1,5 +1,6 @@
 pub mod Levels
 pub mod Lists
+pub mod Bounds
 pub mod Covering
 pub mod Full
 pub mod Reach

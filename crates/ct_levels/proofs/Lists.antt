@@ -15,7 +15,7 @@ use Rattle.ct_levels.specs.Levels.{job_grades}
 use Rattle.ct_levels.proofs.Levels.{opened_is_next, list_zero, list_next, last_opened_next, level_is, covers_opened}
 
 -- the list of a version is the test list of the grade that was opened last
-list_of_opened : (i : Problem) → IsInstance i → (k : ℕ) → IsVersion i k → IsTestList i (last_opened i k) (version_list i k)
+pub list_of_opened : (i : Problem) → IsInstance i → (k : ℕ) → IsVersion i k → IsTestList i (last_opened i k) (version_list i k)
 list_of_opened i s zero v = subst (IsTestList i 0) (sym (list_zero i)) (empty_at_zero i s)
 list_of_opened i s (suc k) v =
     subst (λ d. IsTestList i d (version_list i (suc k))) (sym (last_opened_next i k v.0 v.1))

@@ -1,6 +1,7 @@
 -- What holds of versions, their levels, the full grade and the reach. Each statement is the contract of a function in the
 -- module `laws`.
 use Rattle.std.specs.Prelude.{ℕ, ◌+◌, ◌-◌, ◌≤◌, ◌<◌, ◌≡◌, ◌↔◌, Some, None, List, length, suc}
+use Rattle.ct_vectors.specs.declared.limits.TheConstants.{GRADE_LIMIT, JOB_GRADE_LIMIT}
 use Rattle.ct_instance.specs.Instance.{Problem, IsInstance, IsPoint, degree_of, grade_of}
 use Rattle.ct_instance.specs.Fiber.{least_of}
 use Rattle.ct_instance.specs.TestSet.{test_list}
@@ -35,6 +36,11 @@ OpenedHasJob = (i : Problem) (k d : ℕ) → IsVersion i k → opened_grade i k 
 -- a version covers the grade that was opened last
 abbrev pub OpenedIsCovered : Type 0
 OpenedIsCovered = (i : Problem) (k : ℕ) → IsVersion i k → Covers (level_of i k) (last_opened i k)
+
+-- where the grade that was opened last is within the limit of grades, the next one is within that of jobs
+abbrev pub OpenedIsWithin : Type 0
+OpenedIsWithin =
+    (i : Problem) → IsInstance i → (k d : ℕ) → IsVersion i k → last_opened i k ≤ GRADE_LIMIT → opened_grade i k ≡ Some d → d ≤ JOB_GRADE_LIMIT
 
 -- what a version covers, each later one covers
 abbrev pub LevelsRise : Type 0

@@ -1,6 +1,6 @@
 //! Laws of versions and levels, as contracts of functions that do nothing.
 
-ghost use Rattle.ct_levels.specs.Laws.{ListIsTestList, ListIsLaterTestList, OpenedIsNextJobGrade, OpenedHasJob, OpenedIsCovered, LevelsRise, NumberIsWithin, VersionsStandBefore, FirstVersionIsOne, GradeIsCovered, TestListIsOfFirst, VersionWalks, VersionWalkEndsAtLeast, OpenedIsFull, FullIsOpened, WithinIsBelowFull, FullGradeIsFound, NoFullGrade, ReachWhereFull, ReachWhereWithin, ReachIsLevel, ReachCovers, ReachRises};
+ghost use Rattle.ct_levels.specs.Laws.{ListIsTestList, ListIsLaterTestList, OpenedIsNextJobGrade, OpenedHasJob, OpenedIsWithin, OpenedIsCovered, LevelsRise, NumberIsWithin, VersionsStandBefore, FirstVersionIsOne, GradeIsCovered, TestListIsOfFirst, VersionWalks, VersionWalkEndsAtLeast, OpenedIsFull, FullIsOpened, WithinIsBelowFull, FullGradeIsFound, NoFullGrade, ReachWhereFull, ReachWhereWithin, ReachIsLevel, ReachCovers, ReachRises};
 
 /// A version's list is the test list of each grade from the one that was opened last up to its level.
 pub fn versions_have_test_lists()
@@ -12,6 +12,7 @@ pub fn versions_have_test_lists()
 pub fn levels_follow_jobs()
     ensures opened { OpenedIsNextJobGrade }
     ensures job { OpenedHasJob }
+    ensures within { OpenedIsWithin }
     ensures covered { OpenedIsCovered }
     ensures rise { LevelsRise }
     ensures number { NumberIsWithin }

@@ -1,3 +1,4 @@
+use Rattle.ct_levels.proofs.Bounds.{opened_within}
 use Rattle.ct_levels.proofs.Levels.{opened_is_next, covers_opened, levels_rise, number_within, version_before}
 use Rattle.ct_levels.proofs.Lists.{opened_has_job}
 use Rattle.ct_levels.proofs.laws.levels_follow_jobs.Goals as goal
@@ -7,6 +8,9 @@ returns-clause-opened c = opened_is_next
 
 pub returns-clause-job : goal.returns-clause-job
 returns-clause-job c = opened_has_job
+
+pub returns-clause-within : goal.returns-clause-within
+returns-clause-within c = opened_within
 
 pub returns-clause-covered : goal.returns-clause-covered
 returns-clause-covered c = covers_opened

@@ -4,5 +4,6 @@ pub mod Runs
 pub mod Ends
 pub mod Pairs
 pub mod Loops
+pub mod Followed
 pub mod Openings
 pub mod MoveFacts

@@ -1,7 +1,7 @@
 -- Lists in pages: one entry more, and the first entry that passes a test.
-use Rattle.std.proofs.Common.{ℕ, ◌+◌, ◌-◌, ◌*◌, ◌≤◌, ◌<◌, ◌≡◌, ◌≢◌, ◌⊎◌, inl, inr, Bool, true, false, cond, Option, Some, None, List, [], ◌∷◌, ◌++◌, length, get_or, set, take, drop, refl, sym, ◌∙◌, subst, ap, arith, All, suc, zero, nat_lt, append_assoc, append-nil, add-one}
+use Rattle.std.proofs.Common.{ℕ, ◌+◌, ◌-◌, ◌*◌, ◌/◌, ◌%◌, ◌≤◌, ◌<◌, ◌≡◌, ◌≢◌, ◌⊎◌, inl, inr, Bool, true, false, cond, Option, Some, None, List, [], ◌∷◌, ◌++◌, length, get_or, set, take, drop, refl, sym, ◌∙◌, subst, ap, arith, All, suc, zero, nat_lt, append_assoc, append-nil, add-one}
 use Rattle.std.specs.List.{flat_map, position, position_or_len}
-use Rattle.std.proofs.lemmas.List.{get_or-set_same, get_or-set_other, length-set, get_or_append_left, get_or-append_right, get_or_push, length_push, length-append, take_more, take-append-drop, drop_more, get_or-append-add, get_or_default}
+use Rattle.std.proofs.lemmas.List.{get_or-set_same, get_or-set_other, length-set, get_or_append_left, get_or-append_right, get_or_push, length_push, length-append, take_more, take-append-drop, drop_more, get_or-append-add, drop_all, nil_from_length}
 use Rattle.std.proofs.lemmas.List.Concat.{flat_map-append}
 use Rattle.std.proofs.lemmas.List.Sums.{fails_before_first, position_or_len_is, passes_at_first}
 use Rattle.std.proofs.lemmas.List.Quantifiers.{position-Some}
@@ -11,7 +11,7 @@ use Rattle.ct_index.proofs.Lookups.{position_here, position_none}
 
 -- ---- tests of a list
 
-none_passes : {X : Type 0} (test : X → Bool) (xs : List X) (d : X) → position test xs ≡ None → (k : ℕ) → k < length xs → test (get_or xs k d) ≡ false
+pub none_passes : {X : Type 0} (test : X → Bool) (xs : List X) (d : X) → position test xs ≡ None → (k : ℕ) → k < length xs → test (get_or xs k d) ≡ false
 none_passes test xs d none k l = fails_before_first test xs k d (elim (cases_lt (position_or_len test xs) (length xs)) [
   | inl low ↦ absurd (some_there low)
   | inr high ↦ omega arith
@@ -136,3 +136,46 @@ module _ {P X : Type 0} (f : P → List X) where
       ap (position test) (flat_map_at pages k d l) ∙
       position-append_some test (flat_map f (take k pages)) (f (get_or pages k d)) (flat_map f (drop (k + 1) pages)) e j before here ∙
       ap (λ n. Some (n + j)) (length_before pages d a k l)
+
+  -- the entry with an index is found by dividing
+  pub paged_length : (pages : List P) (k : ℕ) (d : P) → ArePages f pages → k + 1 ≡ length pages → length (flat_map f pages) ≡ 128 * k + length (f (get_or pages k d))
+  paged_length pages k d a last =
+      let rest : drop (k + 1) pages ≡ [] = drop_all (k + 1) pages (omega arith) in
+      let at : flat_map f pages ≡ flat_map f (take k pages) ++ (f (get_or pages k d) ++ []) = subst (λ r. flat_map f pages ≡ flat_map f (take k pages) ++ (f (get_or pages k d) ++ flat_map f r)) rest (flat_map_at pages k d (omega arith)) in
+      omega (arith, ap length at, length-append (flat_map f (take k pages)) (f (get_or pages k d) ++ []), length-append {A = X} (f (get_or pages k d)) [], length_before pages d a k (omega arith))
+
+  pub paged_within : (pages : List P) (n : ℕ) (d : P) → ArePages f pages → n < length (flat_map f pages) → (n / 128 < length pages) × (n % 128 < length (f (get_or pages (n / 128) d)))
+  paged_within pages n d a l = elim (cases_lt (n / 128) (length pages)) [
+    | inl low ↦ (
+      low,
+      elim (cases_eq (n / 128 + 1) (length pages)) [
+        | inl last ↦ omega (arith, paged_length pages (n / 128) d a last)
+        | inr more ↦ omega (arith, a.full (n / 128) d (omega arith))
+      ],
+    )
+    | inr high ↦ absurd (elim (cases_eq (length pages) 0) [
+      | inl none ↦ omega (arith, ap (λ ps. length (flat_map f ps)) (nil_from_length pages none))
+      | inr some ↦
+          let last : length pages - 1 + 1 ≡ length pages = omega arith in
+          omega (arith, paged_length pages (length pages - 1) d a last, a.small (length pages - 1) d (omega arith))
+    ])
+  ]
+
+  pub paged_at : (pages : List P) (n : ℕ) (d : P) (e : X) → ArePages f pages → n < length (flat_map f pages) → get_or (flat_map f pages) n e ≡ get_or (f (get_or pages (n / 128) d)) (n % 128) e
+  paged_at pages n d e a l =
+      let w = paged_within pages n d a l in
+      let front : length (flat_map f (take (n / 128) pages)) ≡ 128 * (n / 128) = length_before pages d a (n / 128) w.0 in
+      let index : n - 128 * (n / 128) ≡ n % 128 = omega arith in
+      ap (λ xs. get_or xs n e) (flat_map_at pages (n / 128) d w.0) ∙
+      get_or-append_right (flat_map f (take (n / 128) pages)) (f (get_or pages (n / 128) d) ++ flat_map f (drop (n / 128 + 1) pages)) (128 * (n / 128)) n e front (omega arith) ∙
+      ap (λ i. get_or (f (get_or pages (n / 128) d) ++ flat_map f (drop (n / 128 + 1) pages)) i e) index ∙
+      get_or_append_left (f (get_or pages (n / 128) d)) (flat_map f (drop (n / 128 + 1) pages)) e (n % 128) w.1
+
+  -- without a page at hand
+  pub paged_page : (pages : List P) (n : ℕ) → ArePages f pages → n < length (flat_map f pages) → n / 128 < length pages
+  paged_page [] n a l = absurd (omega arith)
+  paged_page (page ∷ pages) n a l = (paged_within (page ∷ pages) n page a l).0
+
+  pub paged_count : (pages : List P) → ArePages f pages → 128 * (length pages - 1) ≤ length (flat_map f pages)
+  paged_count [] a = omega arith
+  paged_count (page ∷ pages) a = omega (arith, paged_length (page ∷ pages) (length pages) page a (omega arith))

@@ -16,3 +16,10 @@ KeepsIndex old new head index =
 abbrev pub AddsHead : HeadBits → HeadBits → List ℕ → ℕ → Type 0
 AddsHead old new head index =
     (heads : List (List ℕ)) → length heads ≡ index → All (λ h. length h ≡ length head) heads → IsIndex heads old → IsIndex (heads ++ head ∷ []) new
+
+-- the same index in other memory
+pub record AreEqual (old new : HeadBits) : Type 0 where
+  pub rows : new.rows.items ≡ old.rows.items
+  pub supports : new.supports.items ≡ old.supports.items
+  pub decided : new.decided ≡ old.decided
+  pub shared : new.shared ≡ old.shared

@@ -11,3 +11,7 @@ pub record ArePages {P X : Type 0} (f : P → List X) (pages : List P) : Type 0 
 pub record IsPaged {P X : Type 0} (f : P → List X) (pages : List P) : Type 0 where
   pub all : ArePages f pages
   pub most : length (flat_map f pages) ≤ 4096
+
+-- the first n pages are full
+abbrev pub AreFullBelow : {P X : Type 0} → (P → List X) → List P → ℕ → Type 0
+AreFullBelow {P} f pages n = (k : ℕ) (d : P) → k < n → length (f (slice_index_or pages k d)) ≡ 128

@@ -1,7 +1,7 @@
 //! The index of the heads of a block: what it keeps of them beside the heads themselves.
-ghost use Rattle.std.specs.Prelude.{◌++◌, ◌∷◌, replicate, ◌≡◌, ◌<◌, ◌≤◌, [], length, OnOk, OnErr, bit_and};
+ghost use Rattle.std.specs.Prelude.{◌++◌, ◌∷◌, replicate, ◌≡◌, ◌<◌, ◌≤◌, [], length, OnOk, OnErr, IfOk, bit_and};
 ghost use Rattle.ct_index.specs.Table.{row_count, AreMarked, IsDecided};
-ghost use Rattle.ct_index.specs.Bits.{KeepsIndex, AddsHead};
+ghost use Rattle.ct_index.specs.Bits.{KeepsIndex, AddsHead, AreEqual};
 
 use crate::support::support_of;
 use crate::table;
@@ -30,6 +30,20 @@ impl HeadBits {
             decided: 0,
             shared: u128::MAX,
         }
+    }
+
+    // An equal index.
+    pub fn copy(&self, alloc: Global) -> Result<HeadBits, AllocError>
+        ensures { IfOk result (AreEqual self.now) }
+    {
+        let rows = Vec::from_slice(alloc, &self.rows)?;
+        let supports = Vec::from_slice(alloc, &self.supports)?;
+        Ok(HeadBits {
+            rows,
+            supports,
+            decided: self.decided,
+            shared: self.shared,
+        })
     }
 
     // Adds the head with this index, the number of heads before.

@@ -1,5 +1,5 @@
 //! A block: up to 128 values with heads, with the index of their heads.
-ghost use Rattle.std.specs.Prelude.{◌≡◌, ◌≤◌, ◌<◌, [], ◌∷◌, ◌++◌, length, map, All, OnOk, IfErr, IsTrue, ◌↔◌};
+ghost use Rattle.std.specs.Prelude.{◌≡◌, ◌≤◌, ◌<◌, [], ◌∷◌, ◌++◌, length, map, All, OnOk, IfErr, IfOk, IsTrue, ◌↔◌};
 ghost use Rattle.std.specs.List.{position};
 ghost use Rattle.ct_vectors.specs.Vectors.{divides};
 ghost use Rattle.ct_index.specs.Table.{ArePlaces, LeavesOut, AreDecided};
@@ -45,6 +45,15 @@ impl<T: HasHead> HeadBlock<T> {
             items: Vec::new(alloc),
             bits: HeadBits::new(alloc),
         }
+    }
+
+    /// An equal block, with copies of the values.
+    pub fn copy(&self, alloc: Global) -> Result<HeadBlock<T>, AllocError>
+        ensures { IfOk result (λ b. b ≡ self.now) }
+    {
+        let items = copies(alloc, &self.items)?;
+        let bits = self.bits.copy(alloc)?;
+        Ok(HeadBlock { items, bits })
     }
 
     /// The values in order.
@@ -120,4 +129,15 @@ fn first_among<T: HasHead>(items: &[T], p: &Point, allowed: u128, decided: u128)
         left &= !(1u128 << j);
     }
     None
+}
+
+// Equal values in order.
+fn copies<T: HasHead>(alloc: Global, items: &[T]) -> Result<Vec<T>, AllocError>
+    ensures { IfOk result (λ v. v.items ≡ items.now) }
+{
+    let mut made = Vec::with_capacity(alloc, items.len())?;
+    for item in items {
+        made.push(item.copy(alloc)?)?;
+    }
+    Ok(made)
 }

@@ -6,3 +6,4 @@ pub mod Pairs
 pub mod Loops
 pub mod Openings
 pub mod MoveFacts
+pub mod SlabFacts

@@ -1,15 +1,17 @@
 -- The places of the two texts can each be filled.
-use Rattle.std.proofs.Common.{◌≡◌, ℕ, zero, suc, ◌-◌, ◌*◌, ◌≤◌, Bool, true, false, List, [], ◌∷◌, length, Option, Some, None, ℤ, refl, ap, ◌∙◌, arith, lit≤}
+use Rattle.std.proofs.Common.{◌≡◌, ℕ, zero, suc, ◌-◌, ◌*◌, ◌≤◌, Bool, true, false, List, [], ◌∷◌, ◌++◌, length, Option, Some, None, ℤ, refl, ap, ◌∙◌, arith, lit≤}
 use Rattle.std.specs.Prelude.{codes}
 use Rattle.std.specs.Str.{bytes_eq}
+use Rattle.ct_vectors.specs.declared.limits.TheConstants.{ENTRY_LIMIT, COST_LIMIT, COST_ROW_LIMIT, RIGHT_LIMIT}
+use Rattle.ct_input.specs.declared.limits.TheConstants.{PHASE_LIMIT, SESSION_LIMIT, REQUEST_LIMIT}
 use Rattle.ct_input.specs.declared.script.Request.TheVariants.{Ask, Solve}
 use Rattle.ct_input.specs.declared.script.Phase.{Phase}
 use Rattle.ct_input.specs.declared.script.Script.{Script}
 use Rattle.ct_input.specs.declared.draft.Draft.{Draft}
 use Rattle.ct_input.specs.Grammar.{Grammar, done, nothing, word, number, signed, fork, barred, part, numbers, signeds, if_some, upto}
-use Rattle.ct_input.specs.InstanceText.{instance_text}
+use Rattle.ct_input.specs.InstanceText.{more_rows, cost_rows, instance_text}
 use Rattle.ct_input.specs.SessionText.{request, no_request, requests, session, no_session, sessions, phase, no_phase, phases, request_count, session_text}
-use Rattle.ct_input.proofs.FirstFaults.{Fills, opens}
+use Rattle.ct_input.proofs.FirstFaults.{Fills, opens, Closes, Needs}
 
 false_is_not_true : false ≡ true → ⊥
 false_is_not_true e = cc
@@ -37,6 +39,19 @@ fills_part whole after mid (fork w first second) f h more follows =
     (fills_part whole after mid first f h.0 more follows, fills_part whole after mid second f h.1 more follows, ap (λ v. bytes_eq v w) (opens_part after mid second f h.1 follows) ∙ h.2)
 fills_part whole after mid (barred w next) f h more follows =
     (fills_part whole after mid next f h.0 more follows, ap (λ v. bytes_eq v w) (opens_part after mid next f h.0 follows) ∙ h.1)
+
+-- what follows a part closes it
+closes_part : {A B : Type 0} (mid : List ℕ) (g : Grammar A) (f : A → Grammar B) → Fills false mid g → ((x : A) → Closes (f x) × Needs (f x)) → Closes (part g f) × Needs (part g f)
+unfolding part Fills Closes Needs
+closes_part mid (done x) f h more = more x
+closes_part mid (nothing next) f h more = absurd (false_is_not_true h.0)
+closes_part mid (word w next) f h more = ((closes_part mid next f h.1 more).0, tt)
+closes_part mid (number low high next) f h more = (λ n. (closes_part mid (next n) f (h.2 n) more).0, tt)
+closes_part mid (signed size next) f h more = (λ n. (closes_part mid (next n) f (h.1 n) more).0, tt)
+closes_part mid (fork w first second) f h more =
+    let rest = closes_part mid second f h.1 more in
+    (((closes_part mid first f h.0 more).0, rest.0), rest.1)
+closes_part mid (barred w next) f h more = let rest = closes_part mid next f h.0 more in (rest, rest.1)
 
 -- ---- lists of numbers
 
@@ -83,14 +98,14 @@ module _ {X : Type 0} (after : List ℕ) (item : ℕ → Grammar (Option X)) (us
 abbrev end_word : List ℕ
 end_word = codes "end"
 
-right : 1 ≤ 1000000000000
+right : 1 ≤ RIGHT_LIMIT
 right = lit≤ tt
 
 fills_request : (m : ℕ) → Fills false end_word (request m)
 unfolding request Fills opens
 fills_request m = (
-  fills_part false end_word end_word (numbers m 1000000000000) (λ b. done (Some (Ask b))) (fills_numbers end_word m 1000000000000 right) (λ b. tt) (λ b. refl),
-  (fills_part false end_word end_word (numbers m 1000000000000) (λ b. done (Some (Solve b))) (fills_numbers end_word m 1000000000000 right) (λ b. tt) (λ b. refl), tt, refl),
+  fills_part false end_word end_word (numbers m RIGHT_LIMIT) (λ b. done (Some (Ask b))) (fills_numbers end_word m RIGHT_LIMIT right) (λ b. tt) (λ b. refl),
+  (fills_part false end_word end_word (numbers m RIGHT_LIMIT) (λ b. done (Some (Solve b))) (fills_numbers end_word m RIGHT_LIMIT right) (λ b. tt) (λ b. refl), tt, refl),
   refl,
 )
 
@@ -126,7 +141,7 @@ unfolding opens
 opens_no_session = refl
 
 fills_sessions : (m spare : ℕ) → Fills false end_word (sessions m spare) × (opens end_word (sessions m spare) ≡ end_word)
-fills_sessions m spare = upto_fills end_word (session m) length no_session (fills_session m) fills_no_session (opens_session m) opens_no_session 16 spare
+fills_sessions m spare = upto_fills end_word (session m) length no_session (fills_session m) fills_no_session (opens_session m) opens_no_session SESSION_LIMIT spare
 
 fills_phase : (m spare : ℕ) → Fills false end_word (phase m spare)
 unfolding phase Fills opens
@@ -146,7 +161,7 @@ unfolding opens
 opens_no_phase = refl
 
 fills_phases : (m spare : ℕ) → Fills false end_word (phases m spare) × (opens end_word (phases m spare) ≡ end_word)
-fills_phases m spare = upto_fills end_word (phase m) (λ p. request_count p.sessions) no_phase (fills_phase m) fills_no_phase (opens_phase m) opens_no_phase 64 spare
+fills_phases m spare = upto_fills end_word (phase m) (λ p. request_count p.sessions) no_phase (fills_phase m) fills_no_phase (opens_phase m) opens_no_phase PHASE_LIMIT spare
 
 pub fills_session_text : (m : ℕ) → Fills true [] (session_text m)
 unfolding session_text Fills opens
@@ -155,44 +170,104 @@ fills_session_text m =
       record { some = λ e. cc; plain = refl },
       (
         record { some = λ e. cc; plain = refl },
-        fills_part true [] end_word (phases m 100000) closing (fills_phases m 100000).0 (λ ps. (record { some = λ e. cc; plain = refl }, (refl, (record { phases = ps }, refl)))) (λ ps. refl),
+        fills_part true [] end_word (phases m REQUEST_LIMIT) closing (fills_phases m REQUEST_LIMIT).0 (λ ps. (record { some = λ e. cc; plain = refl }, (refl, (record { phases = ps }, refl)))) (λ ps. refl),
       ),
     )
 
+pub closes_session_text : (m : ℕ) → Closes (session_text m)
+unfolding session_text Closes Needs
+closes_session_text m =
+    let closing : List Phase → Grammar Script = λ ps. word (codes "end") (nothing (done (record { phases = ps }))) in
+    (closes_part end_word (phases m REQUEST_LIMIT) closing (fills_phases m REQUEST_LIMIT).0 (λ ps. (tt, tt))).0
+
 -- ---- the instance text
+
+cost : 1 ≤ COST_LIMIT
+cost = lit≤ tt
+
+fills_rows : (count n : ℕ) → Fills false end_word (more_rows count n) × (opens end_word (more_rows count n) ≡ end_word)
+unfolding more_rows Fills opens
+fills_rows zero n = (((tt, refl)), refl)
+fills_rows (suc count) n =
+    let last : List ℤ → List ℤ → Grammar (List ℤ) = λ row rows. done (row ++ rows) in
+    let more : List ℤ → Grammar (List ℤ) = λ row. part (more_rows count n) (last row) in
+    let rest = fills_rows count n in (
+      (
+        fills_part false end_word end_word (signeds n COST_LIMIT) more (fills_signeds end_word n COST_LIMIT cost)
+            (λ row. fills_part false end_word end_word (more_rows count n) (last row) rest.0 (λ rows. tt) (λ rows. refl))
+            (λ row. opens_part end_word end_word (more_rows count n) (last row) rest.0 (λ rows. refl) ∙ rest.1),
+        tt,
+        refl,
+      ),
+      refl,
+    )
+
+fills_cost_rows : (n : ℕ) → Fills false end_word (cost_rows n)
+unfolding cost_rows Fills opens
+fills_cost_rows n =
+    let last : List ℤ → List ℤ → Grammar (List ℤ) = λ row rows. done (row ++ rows) in
+    let more : List ℤ → Grammar (List ℤ) = λ row. part (more_rows (COST_ROW_LIMIT - 1) n) (last row) in
+    let rest = fills_rows (COST_ROW_LIMIT - 1) n in (
+      record { some = λ e. cc; plain = refl },
+      fills_part false end_word end_word (signeds n COST_LIMIT) more (fills_signeds end_word n COST_LIMIT cost)
+          (λ row. fills_part false end_word end_word (more_rows (COST_ROW_LIMIT - 1) n) (last row) rest.0 (λ rows. tt) (λ rows. refl))
+          (λ row. opens_part end_word end_word (more_rows (COST_ROW_LIMIT - 1) n) (last row) rest.0 (λ rows. refl) ∙ rest.1),
+    )
+
+opens_cost_rows : (n : ℕ) → opens end_word (cost_rows n) ≡ codes "cost"
+unfolding cost_rows opens
+opens_cost_rows n = refl
+
+abbrev closing : ℕ → ℕ → List ℕ → List ℤ → Grammar Draft
+closing m n entries costs = word (codes "end") (nothing (done (record { rows = m; columns = n; entries = entries; costs = costs })))
+
+fills_closing : (m n : ℕ) (entries : List ℕ) (costs : List ℤ) → Fills true [] (closing m n entries costs)
+unfolding Fills
+fills_closing m n entries costs = (record { some = λ e. cc; plain = refl }, (refl, (record { rows = m; columns = n; entries = entries; costs = costs }, refl)))
+
+closes_closing : (m n : ℕ) (entries : List ℕ) (costs : List ℤ) → Closes (closing m n entries costs) × Needs (closing m n entries costs)
+unfolding Closes Needs
+closes_closing m n entries costs = (tt, tt)
+
+abbrev costly : ℕ → ℕ → List ℕ → Grammar Draft
+costly m n entries = part (cost_rows n) (closing m n entries)
+
+fills_costly : (m n : ℕ) (entries : List ℕ) → Fills true [] (costly m n entries)
+fills_costly m n entries = fills_part true [] end_word (cost_rows n) (closing m n entries) (fills_cost_rows n) (fills_closing m n entries) (λ costs. unfold opens in refl)
+
+opens_costly : (m n : ℕ) (entries : List ℕ) → opens [] (costly m n entries) ≡ codes "cost"
+opens_costly m n entries = opens_part [] end_word (cost_rows n) (closing m n entries) (fills_cost_rows n) (λ costs. unfold opens in refl) ∙ opens_cost_rows n
+
+closes_costly : (m n : ℕ) (entries : List ℕ) → Closes (costly m n entries) × Needs (costly m n entries)
+closes_costly m n entries = closes_part end_word (cost_rows n) (closing m n entries) (fills_cost_rows n) (closes_closing m n entries)
 
 pub fills_instance_text : Fills true [] instance_text
 unfolding instance_text Fills opens
-fills_instance_text =
-    let last : ℕ → ℕ → List ℕ → List ℤ → Draft = λ m n entries costs. record { rows = m; columns = n; entries = entries; costs = costs } in
-    let closing : ℕ → ℕ → List ℕ → List ℤ → Grammar Draft = λ m n entries costs. word (codes "end") (nothing (done (last m n entries costs))) in
-    let costly : ℕ → ℕ → List ℕ → Grammar Draft = λ m n entries. word (codes "cost") (part (signeds n 1000000000000) (closing m n entries)) in (
+fills_instance_text = (
+  record { some = λ e. cc; plain = refl },
+  (
+    record { some = λ e. cc; plain = refl },
+    (
       record { some = λ e. cc; plain = refl },
       (
-        record { some = λ e. cc; plain = refl },
-        (
+        omega arith,
+        omega arith,
+        λ m. (
           record { some = λ e. cc; plain = refl },
           (
             omega arith,
             omega arith,
-            λ m. (
+            λ n. (
               record { some = λ e. cc; plain = refl },
-              (
-                omega arith,
-                omega arith,
-                λ n. (
-                  record { some = λ e. cc; plain = refl },
-                  fills_part true [] (codes "cost") (numbers (m * n) 1000000) (costly m n) (fills_numbers (codes "cost") (m * n) 1000000 (lit≤ tt))
-                      (λ entries. (
-                        record { some = λ e. cc; plain = refl },
-                        fills_part true [] (codes "end") (signeds n 1000000000000) (closing m n entries) (fills_signeds (codes "end") n 1000000000000 right)
-                            (λ costs. (record { some = λ e. cc; plain = refl }, (refl, (last m n entries costs, refl)))) (λ costs. refl),
-                      ))
-                      (λ entries. refl),
-                ),
-              ),
+              fills_part true [] (codes "cost") (numbers (m * n) ENTRY_LIMIT) (costly m n) (fills_numbers (codes "cost") (m * n) ENTRY_LIMIT (lit≤ tt)) (fills_costly m n) (opens_costly m n),
             ),
           ),
         ),
       ),
-    )
+    ),
+  ),
+)
+
+pub closes_instance_text : Closes instance_text
+unfolding instance_text Closes
+closes_instance_text = λ m n. (closes_part (codes "cost") (numbers (m * n) ENTRY_LIMIT) (costly m n) (fills_numbers (codes "cost") (m * n) ENTRY_LIMIT (lit≤ tt)) (closes_costly m n)).0

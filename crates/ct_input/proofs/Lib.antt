@@ -3,3 +3,4 @@ pub mod Loops
 pub mod FirstFaults
 pub mod Filled
 pub mod ZeroColumns
+pub mod Yields

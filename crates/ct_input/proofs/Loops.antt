@@ -1,11 +1,13 @@
 -- Items read one after the other, as a loop does.
-use Rattle.std.proofs.Common.{◌≡◌, ℕ, suc, ◌-◌, List, [], ◌∷◌, ◌++◌, Option, Some, None, Result, Ok, Err, ℤ, refl, sym, ap, ◌∙◌, append_assoc}
+use Rattle.std.proofs.Common.{◌≡◌, ℕ, suc, ◌-◌, List, [], ◌∷◌, ◌++◌, Option, Some, None, Result, Ok, Err, ℤ, Bool, true, false, codes, refl, sym, ap, ◌∙◌, append_assoc}
 use Rattle.std.proofs.lemmas.List.{append-nil}
+use Rattle.ct_vectors.specs.declared.limits.TheConstants.{COST_LIMIT}
 use Rattle.ct_input.specs.declared.fault.Fault.{Fault}
 use Rattle.ct_input.specs.declared.fault.InputStop.{InputStop}
 use Rattle.ct_input.specs.declared.fault.InputStop.TheVariants as stops
 use Rattle.ct_input.specs.Sheet.{Sheet, ◌>>=◌, Fails}
-use Rattle.ct_input.specs.Grammar.{Grammar, done, part, read, token_at, number_in, signed_in, numbers, signeds, upto, if_some}
+use Rattle.ct_input.specs.Grammar.{Grammar, done, part, read, token_at, number_in, signed_in, numbers, signeds, upto, if_some, is_next, after_next, barred_at}
+use Rattle.ct_input.specs.InstanceText.{more_rows}
 use Rattle.ct_input.proofs.Parts.{read_part}
 
 -- what was read before, and what is still read
@@ -54,6 +56,39 @@ signeds_step count size n s rest h = rw h (read_part (signeds count size) (λ ns
 pub signeds_stop : (e : InputStop) (count size : ℕ) (s : Sheet) → Fails e (token_at (signed_in size) s) → Fails e (read (signeds (suc count) size) s)
 unfolding signeds
 signeds_stop e count size s h = Fails_bind e (token_at (signed_in size) s) (λ x. read (part (signeds count size) (λ ns. done (x.0 ∷ ns))) x.1) h
+
+-- ---- rows of costs
+
+regroup_rows : (front row : List ℤ) (read : Result (List ℤ × Sheet) Fault) → with_front front (with_front row read) ≡ with_front (front ++ row) read
+regroup_rows front row (Ok y) = ap (λ (xs : List ℤ). Ok (xs, y.1)) (sym (append_assoc front row y.0))
+regroup_rows front row (Err f) = refl
+
+pub rows_go_on : (front row : List ℤ) (now later whole : Result (List ℤ × Sheet) Fault) → now ≡ with_front row later → with_front front now ≡ whole → with_front (front ++ row) later ≡ whole
+rows_go_on front row now later whole step so_far = sym (regroup_rows front row later) ∙ ap (with_front front) (sym step) ∙ so_far
+
+pub rows_step : (count n : ℕ) (row : List ℤ) (s rest : Sheet) → is_next (codes "cost") s ≡ true → read (signeds n COST_LIMIT) (after_next s) ≡ Ok (row, rest)
+    → read (more_rows (suc count) n) s ≡ with_front row (read (more_rows count n) rest)
+unfolding more_rows
+rows_step count n row s rest next h =
+    rw next (read_part (signeds n COST_LIMIT) (λ r. part (more_rows count n) (λ rs. done (r ++ rs))) (after_next s) ∙ rw h (read_part (more_rows count n) (λ rs. done (row ++ rs)) rest))
+
+pub rows_end : (count n : ℕ) (s : Sheet) → is_next (codes "cost") s ≡ false → read (more_rows (suc count) n) s ≡ Ok ([], s)
+unfolding more_rows
+rows_end count n s absent = rw absent refl
+
+pub rows_stop : (e : InputStop) (count n : ℕ) (s : Sheet) → is_next (codes "cost") s ≡ true → Fails e (read (signeds n COST_LIMIT) (after_next s)) → Fails e (read (more_rows (suc count) n) s)
+unfolding more_rows
+rows_stop e count n s next h =
+    let more : List ℤ → Grammar (List ℤ) = λ r. part (more_rows count n) (λ rs. done (r ++ rs)) in
+    rw (next, read_part (signeds n COST_LIMIT) more (after_next s)) (Fails_bind e (read (signeds n COST_LIMIT) (after_next s)) (λ x. read (more x.0) x.1) h)
+
+pub rows_over : (e : InputStop) (n : ℕ) (s : Sheet) → Fails e (barred_at (codes "cost") s) → Fails e (read (more_rows 0 n) s)
+unfolding more_rows
+rows_over e n s h = Fails_bind e (barred_at (codes "cost") s) (λ _. Ok ([], s)) h
+
+pub rows_done : (n : ℕ) (s : Sheet) → barred_at (codes "cost") s ≡ Ok true → read (more_rows 0 n) s ≡ Ok ([], s)
+unfolding more_rows
+rows_done n s may = rw may refl
 
 -- ---- at most so many items
 

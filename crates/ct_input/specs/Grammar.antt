@@ -27,7 +27,7 @@ pub data Grammar (A : Type 0) : Type 0 where
   -- this word may not stand here any more
   barred : List ℕ → Grammar A → Grammar A
 
--- So a grammar has no parentheses: word w then number 1 16 then λ m. ..
+-- So a grammar has no parentheses: word w then number 1 9 then λ m. ..
 infixr 1 ◌then◌
 abbrev pub ◌then◌ : {A B : Type 0} → (A → B) → A → B
 f then x = f x

@@ -2,6 +2,7 @@ pub mod Sheet
 pub mod Grammar
 pub mod InstanceText
 pub mod SessionText
+pub mod Script
 pub mod Reader
 pub mod FaultText
 pub mod Files

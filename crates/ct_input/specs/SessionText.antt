@@ -1,5 +1,7 @@
 -- The session text of an instance with m rows.
 use Rattle.std.specs.Prelude.{ℕ, List, [], Option, Some, None, length, sum_by, codes}
+use Rattle.ct_vectors.specs.declared.limits.TheConstants.{RIGHT_LIMIT, GRADE_LIMIT}
+use Rattle.ct_input.specs.declared.limits.TheConstants.{PHASE_LIMIT, SESSION_LIMIT, REQUEST_LIMIT}
 use Rattle.ct_input.specs.declared.script.Request.{Request}
 use Rattle.ct_input.specs.declared.script.Request.TheVariants.{Ask, Solve}
 use Rattle.ct_input.specs.declared.script.Phase.{Phase}
@@ -9,8 +11,8 @@ use Rattle.ct_input.specs.Grammar.{Grammar, done, nothing, word, number, fork, b
 -- a request, if one stands next
 unfoldable pub request : ℕ → Grammar (Option Request)
 request m =
-    fork (codes "ask") (part (numbers m 1000000000000) then λ b. done (Some (Ask b))) then
-    fork (codes "solve") (part (numbers m 1000000000000) then λ b. done (Some (Solve b))) then
+    fork (codes "ask") (part (numbers m RIGHT_LIMIT) then λ b. done (Some (Ask b))) then
+    fork (codes "solve") (part (numbers m RIGHT_LIMIT) then λ b. done (Some (Solve b))) then
     done None
 
 abbrev pub no_request : Grammar (List Request)
@@ -31,7 +33,7 @@ sessions_up_to m count spare = upto (session m) length no_session count spare
 
 -- the sessions of a phase, at most 16
 abbrev pub sessions : ℕ → ℕ → Grammar (List (List Request))
-sessions m spare = sessions_up_to m 16 spare
+sessions m spare = sessions_up_to m SESSION_LIMIT spare
 
 -- how many requests stand in the sessions
 abbrev pub request_count : List (List Request) → ℕ
@@ -39,7 +41,7 @@ request_count = sum_by length
 
 unfoldable pub phase : ℕ → ℕ → Grammar (Option Phase)
 phase m spare =
-    fork (codes "phase") (number 0 16000000000000 then λ target. part (sessions m spare) then λ ss. done (Some (record { target = target; sessions = ss }))) then
+    fork (codes "phase") (number 0 GRADE_LIMIT then λ target. part (sessions m spare) then λ ss. done (Some (record { target = target; sessions = ss }))) then
     done None
 
 abbrev pub no_phase : Grammar (List Phase)
@@ -50,9 +52,9 @@ phases_up_to m count spare = upto (phase m) (λ p. request_count p.sessions) no_
 
 -- at most 64 phases, and at most 100,000 requests in the file
 abbrev pub phases : ℕ → ℕ → Grammar (List Phase)
-phases m spare = phases_up_to m 64 spare
+phases m spare = phases_up_to m PHASE_LIMIT spare
 
 unfoldable pub session_text : ℕ → Grammar Script
 session_text m =
-    word (codes "sessions") then word (codes "1") then part (phases m 100000) then λ ps.
+    word (codes "sessions") then word (codes "1") then part (phases m REQUEST_LIMIT) then λ ps.
     word (codes "end") then nothing then done (record { phases = ps })

@@ -2,7 +2,7 @@
 
 use ct_point::Seq;
 
-/// An instance text that has the right tokens. The entries stand row after row.
+/// An instance text that has the right tokens. The entries and the costs stand row after row.
 #[derive(Debug, Drop)]
 pub struct Draft {
     pub rows: u64,

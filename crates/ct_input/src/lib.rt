@@ -9,6 +9,7 @@ mod draft;
 mod fault;
 mod instance_text;
 pub mod laws;
+pub mod limits;
 mod lists;
 mod print;
 mod reader;

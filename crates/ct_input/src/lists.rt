@@ -1,6 +1,6 @@
 //! Lists of numbers.
 
-ghost use Rattle.std.specs.Prelude.{◌≡◌, ◌<◌, ◌^◌, IfOk, vec_len};
+ghost use Rattle.std.specs.Prelude.{◌≡◌, ◌<◌, ◌≤◌, ◌^◌, nat_abs, All, IfOk, vec_len};
 ghost use Rattle.ct_input.specs.Sheet.{Gives};
 ghost use Rattle.ct_input.specs.Grammar.{read, numbers, signeds};
 
@@ -17,6 +17,7 @@ pub fn numbers(
 ) -> Result<Vec<u64>, InputStop>
     ensures gives { Gives (λ v. (v.items, reader.new)) result (read (numbers count high) reader.old) }
     ensures count { IfOk result (λ v. vec_len v ≡ count) }
+    ensures limit { IfOk result (λ v. All (λ n. n ≤ high) v.items) }
 {
     let mut found = Vec::with_capacity(alloc, count)?;
     for _ in 0..count {
@@ -36,6 +37,7 @@ pub fn signeds(
     requires { size < 2 ^ 63 }
     ensures gives { Gives (λ v. (v.items, reader.new)) result (read (signeds count size) reader.old) }
     ensures count { IfOk result (λ v. vec_len v ≡ count) }
+    ensures limit { IfOk result (λ v. All (λ n. nat_abs n ≤ size) v.items) }
 {
     let mut found = Vec::with_capacity(alloc, count)?;
     for _ in 0..count {

@@ -4,24 +4,17 @@ ghost use Rattle.std.specs.Prelude.{◌≡◌, ◌-◌, [], IfOk, IfSome, length
 ghost use Rattle.ct_input.specs.Sheet.{Gives};
 ghost use Rattle.ct_input.specs.Grammar.{read};
 ghost use Rattle.ct_input.specs.SessionText.{request, no_request, requests, session, sessions, phase, phases, request_count, session_text};
+ghost use Rattle.ct_input.specs.Script.{IsScript};
 ghost use Rattle.ct_input.specs.Files.{session_file};
 
 use crate::fault::{Fault, InputStop};
+use crate::limits::{PHASE_LIMIT, REQUEST_LIMIT, SESSION_FILE_LIMIT, SESSION_LIMIT};
 use crate::lists::numbers;
 use crate::reader::Reader;
 use crate::script::{Phase, Request, Script};
-use ct_instance::Instance;
 use ct_point::Seq;
+use ct_vectors::limits::{GRADE_LIMIT, RIGHT_LIMIT};
 use std::alloc::Global;
-
-// The entries of b are within this limit.
-const RIGHT_LIMIT: u64 = 1_000_000_000_000;
-
-const TARGET_LIMIT: u64 = 16_000_000_000_000;
-
-const REQUEST_LIMIT: usize = 100_000;
-
-const FILE_LIMIT: usize = 16_777_216;
 
 #[tactic(auto, using(crate::proofs::Parts::read_part), unfolding(crate::specs::SessionText::request))]
 fn request_of(alloc: Global, reader: &mut Reader, rows: usize) -> Result<Option<Request>, InputStop>
@@ -94,7 +87,7 @@ fn sessions_of(
     ensures spare { IfOk result (λ found. spare.new ≡ spare.old - request_count found.items) }
 {
     let mut found = Vec::new(alloc);
-    for _ in 0..16u64 {
+    for _ in 0..SESSION_LIMIT {
         let next = session_of(alloc, reader, rows, *spare)?;
         match next {
             None => return Ok(found),
@@ -119,7 +112,7 @@ fn phase_of(
     ensures spare { IfOk result (λ found. IfSome found (λ p. spare.new ≡ spare.old - request_count p.sessions)) }
 {
     if reader.goes(b"phase") {
-        let target = reader.number(0, TARGET_LIMIT)?;
+        let target = reader.number(0, GRADE_LIMIT)?;
         let sessions = sessions_of(alloc, reader, rows, spare)?;
         return Ok(Some(Phase {
             target,
@@ -138,7 +131,7 @@ fn phases_of(
     ensures { Gives (λ found. (found.items, reader.new)) result (read (phases rows spare) reader.old) }
 {
     let mut found = Vec::new(alloc);
-    for _ in 0..64u64 {
+    for _ in 0..PHASE_LIMIT {
         let next = phase_of(alloc, reader, rows, &mut spare)?;
         match next {
             None => return Ok(found),
@@ -163,21 +156,16 @@ fn script_in(alloc: Global, reader: &mut Reader, rows: usize) -> Result<Script, 
     })
 }
 
+/// The script of a session file of at most 16,777,216 bytes for an instance with so many rows, in one pass over its
+/// bytes. The script takes 8 bytes a number of each request and a few words for each request, session and phase.
 #[tactic(auto, unfolding(crate::specs::Files::session_file))]
-fn script_of(alloc: Global, rows: usize, bytes: &[u8]) -> Result<Script, InputStop>
-    ensures { Gives (λ script. script) result (session_file rows bytes.now) }
+pub fn read_sessions(alloc: Global, rows: usize, bytes: &[u8]) -> Result<Script, InputStop>
+    ensures gives { Gives (λ script. script) result (session_file rows bytes.now) }
+    ensures script { IfOk result (IsScript rows) }
 {
-    if bytes.len() > FILE_LIMIT {
+    if bytes.len() > SESSION_FILE_LIMIT {
         return Err(InputStop::Fault(Fault::TooLong));
     }
     let mut reader = Reader::new(bytes);
     script_in(alloc, &mut reader, rows)
-}
-
-/// The script of a session file of at most 16,777,216 bytes for the instance, in one pass over its bytes. The script
-/// takes 8 bytes a number of each request and a few words for each request, session and phase.
-pub fn read_sessions(alloc: Global, inst: &Instance, bytes: &[u8]) -> Result<Script, InputStop>
-    ensures { Gives (λ script. script) result (session_file inst.now.rows bytes.now) }
-{
-    script_of(alloc, inst.rows(), bytes)
 }

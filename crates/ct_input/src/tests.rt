@@ -1,8 +1,6 @@
 //! Texts from outside, with the faults that they have.
 
 use crate::{Fault, InputStop, Request, TextReason, push_fault, read_instance, read_sessions};
-use ct_instance::Instance;
-use std::alloc::Global;
 use std::test::Fail;
 
 const COINS: &[u8] = b"instance 1\nrows 1\ncolumns 2\nmatrix\n3 5\ncost 2 3\nend\n";
@@ -20,14 +18,6 @@ fn at(line: u64, column: u64, reason: TextReason) -> Option<Fault> {
         column,
         reason,
     })
-}
-
-fn coins(alloc: Global) -> Result<Instance, Fail> {
-    Ok(
-        read_instance(alloc, COINS)
-            .ok()
-            .ok_or("the coins are an instance")?,
-    )
 }
 
 #[test]
@@ -54,6 +44,14 @@ fn faults_of_instances(rt: HostRuntime) -> Result<(), Fail> {
         (
             b"instance 1 rows 1 columns 1 matrix 3 cost -0 end",
             at(1, 43, TextReason::Number),
+        ),
+        (
+            b"instance 1 rows 1 columns 1 matrix 3 cost 1 coast 2 end",
+            at(1, 45, TextReason::Word),
+        ),
+        (
+            b"instance 1 rows 1 columns 1 matrix 3 cost 1 cost 1000000000001 end",
+            at(1, 50, TextReason::Limit),
         ),
         (
             b"instance 1 rows 1 columns 1 matrix 3 cost 1 end end",
@@ -84,7 +82,6 @@ fn instance_cut_at_each_byte(rt: HostRuntime) -> Result<(), Fail> {
 
 #[test]
 fn faults_of_sessions(rt: HostRuntime) -> Result<(), Fail> {
-    let inst = coins(rt.alloc())?;
     for (text, fault) in [
         (
             &b"sessions 1\nphase 0\nsession\nsolve 1000000000001\nend\n"[..],
@@ -101,29 +98,59 @@ fn faults_of_sessions(rt: HostRuntime) -> Result<(), Fail> {
         (b"sessions 1 phase 0 solve", at(1, 20, TextReason::Word)),
         (b"sessions 1 end", None),
     ] {
-        assert!(rt; fault_of(read_sessions(rt.alloc(), &inst, text)) == fault);
+        assert!(rt; fault_of(read_sessions(rt.alloc(), 1, text)) == fault);
     }
     Ok(())
 }
 
+// One column with so many rows of costs: the first eight are accepted, and `end` after each of them.
+#[test]
+fn rows_of_costs(rt: HostRuntime) -> Result<(), Fail> {
+    for (count, fault) in [
+        (1u64, None),
+        (2, None),
+        (8, None),
+        (9, at(1, 94, TextReason::Limit)),
+    ] {
+        let mut text = Vec::from_slice(rt.alloc(), b"instance 1 rows 1 columns 1 matrix 3 ")?;
+        for _ in 0..count {
+            text.extend_from_slice(b"cost 1 ")?;
+        }
+        text.extend_from_slice(b"end")?;
+        match read_instance(rt.alloc(), text.as_slice()) {
+            Ok(inst) => assert!(rt; fault.is_none() && inst.costs().row_count() as u64 == count),
+            Err(InputStop::Fault(found)) => assert!(rt; Some(found) == fault, "{count}"),
+            Err(InputStop::Memory) => assert!(rt; false),
+        }
+    }
+    Ok(())
+}
+
+// The most phases, sessions and requests, and one more of each.
 #[test]
 fn one_too_many(rt: HostRuntime) -> Result<(), Fail> {
-    let inst = coins(rt.alloc())?;
-    for (head, piece, count, columns) in [
-        (&b"sessions 1 "[..], &b"phase 0 "[..], 64u64, 8u64),
-        (b"sessions 1 phase 0 ", b"session ", 16, 8),
+    for (head, piece, count) in [
+        (&b"sessions 1 "[..], &b"phase 0 "[..], 64u64),
+        (b"sessions 1 phase 0 ", b"session ", 16),
+        (b"sessions 1 phase 0 session ", b"ask 1 ", 100_000),
     ] {
         let mut text = Vec::from_slice(rt.alloc(), head)?;
         for _ in 0..count {
             text.extend_from_slice(piece)?;
         }
-        let full = text.len() as u64;
+        let full = text.len();
+        text.extend_from_slice(b"end")?;
+        assert!(rt;
+            read_sessions(rt.alloc(), 1, text.as_slice()).is_ok(),
+            "{count}"
+        );
+        text.truncate(full);
         text.extend_from_slice(piece)?;
         text.extend_from_slice(b"end")?;
         assert!(rt;
-            fault_of(read_sessions(rt.alloc(), &inst, text.as_slice()))
-                == at(1, full + 1, TextReason::Limit),
-            "after {columns}"
+            fault_of(read_sessions(rt.alloc(), 1, text.as_slice()))
+                == at(1, full as u64 + 1, TextReason::Limit),
+            "{count}"
         );
     }
     Ok(())
@@ -131,10 +158,9 @@ fn one_too_many(rt: HostRuntime) -> Result<(), Fail> {
 
 #[test]
 fn script_of_a_file(rt: HostRuntime) -> Result<(), Fail> {
-    let inst = coins(rt.alloc())?;
     let script = read_sessions(
         rt.alloc(),
-        &inst,
+        1,
         b"sessions 1 phase 7 session solve 15 ask 7 end",
     )
     .ok()
@@ -145,8 +171,8 @@ fn script_of_a_file(rt: HostRuntime) -> Result<(), Fail> {
             assert_eq!(rt; session.as_slice().len(), 2);
             for request in session.as_slice() {
                 match request {
-                    Request::Solve(b) => assert!(rt; b.as_slice() == [15u64].as_slice()),
-                    Request::Ask(b) => assert!(rt; b.as_slice() == [7u64].as_slice()),
+                    Request::Solve(_) => assert!(rt; request.right() == [15u64].as_slice()),
+                    Request::Ask(_) => assert!(rt; request.right() == [7u64].as_slice()),
                 }
             }
         }

@@ -1,13 +1,14 @@
 -- The columns that entries row after row make.
-use Rattle.std.proofs.Common.{◌≡◌, ℕ, ◌+◌, ◌*◌, ◌≤◌, ◌<◌, ◌⊎◌, inl, inr, subst, All, List, [], ◌∷◌, ◌++◌, length, drop, get_or, set, map, refl, sym, ap, ◌∙◌, arith, zero, suc}
+use Rattle.std.proofs.Common.{◌≡◌, ℕ, ℤ, ◌+◌, ◌*◌, ◌/◌, ◌≤◌, ◌<◌, ◌⊎◌, inl, inr, subst, All, List, [], ◌∷◌, ◌++◌, length, drop, get_or, set, map, refl, sym, ap, ◌∙◌, arith, zero, suc}
 use Rattle.std.proofs.lemmas.List.{get_or-drop, get_or_past, get_or-map, set-append_left, length-map, length_push}
 use Rattle.std.proofs.lemmas.List.Elements.{All-drop, All-cons, All-nil, All-map, All-weaker}
 use Rattle.ct_vectors.specs.Vectors.{total, zeros, unit}
-use Rattle.ct_vectors.proofs.Sums.{length-zeros}
+use Rattle.ct_vectors.specs.declared.limits.TheConstants.{ROW_LIMIT, ENTRY_LIMIT}
+use Rattle.ct_vectors.proofs.Sums.{length-zeros, total-limit}
 use Rattle.ct_vectors.proofs.Places.{zeros-append}
-use Rattle.ct_instance.specs.Instance.{IsColumn}
-use Rattle.ct_instance.proofs.Grades.{total-limit}
-use Rattle.ct_instance.specs.Made.{column_of, columns_of, indices}
+use Rattle.ct_order.specs.Costs.{rows_of}
+use Rattle.ct_instance.specs.Instance.{Problem, IsColumn}
+use Rattle.ct_instance.specs.Made.{column_of, columns_of, problem_of, indices}
 
 pub length-column_of : (m n j : ℕ) (es : List ℕ) → length (column_of m n j es) ≡ m
 length-column_of zero n j es = refl
@@ -52,19 +53,30 @@ columns-limit k m n es h =
     All-map (λ c. (length c ≡ m) × All (λ a. a ≤ k) c) (λ j. column_of m n j es) (indices n)
     (λ i d l. (length-column_of m n (get_or (indices n) i d) es, All-column_of k m n (get_or (indices n) i d) es h))
 
-pub columns-total : (m n : ℕ) (es : List ℕ) → m ≤ 16 → All (λ a. a ≤ 1000000) es → All (λ c. total c ≤ 16000000) (columns_of m n es)
-columns-total m n es few h = All-weaker (λ c. (length c ≡ m) × All (λ a. a ≤ 1000000) c) (λ c. total c ≤ 16000000) small (columns_of m n es) (columns-limit 1000000 m n es h)
+pub columns-total : (m n : ℕ) (es : List ℕ) → m ≤ ROW_LIMIT → All (λ a. a ≤ ENTRY_LIMIT) es → All (λ c. total c ≤ ROW_LIMIT * ENTRY_LIMIT) (columns_of m n es)
+columns-total m n es few h = All-weaker (λ c. (length c ≡ m) × All (λ a. a ≤ ENTRY_LIMIT) c) (λ c. total c ≤ ROW_LIMIT * ENTRY_LIMIT) small (columns_of m n es) (columns-limit ENTRY_LIMIT m n es h)
   where
-    small : (c : List ℕ) → (length c ≡ m) × All (λ a. a ≤ 1000000) c → total c ≤ 16000000
+    small : (c : List ℕ) → (length c ≡ m) × All (λ a. a ≤ ENTRY_LIMIT) c → total c ≤ ROW_LIMIT * ENTRY_LIMIT
     small c (len, limit) =
-        let bound : total c ≤ length c * 1000000 = total-limit 1000000 c limit in
-        let most : length c * 1000000 ≤ 16 * 1000000 = omega arith in
+        let bound : total c ≤ length c * ENTRY_LIMIT = total-limit ENTRY_LIMIT c limit in
+        let most : length c * ENTRY_LIMIT ≤ ROW_LIMIT * ENTRY_LIMIT = omega arith in
+        omega arith
+
+-- the sums of columns of an instance have a limit
+pub IsColumn-total : (m : ℕ) (cs : List (List ℕ)) → m ≤ ROW_LIMIT → All (IsColumn m) cs → All (λ c. total c ≤ ROW_LIMIT * ENTRY_LIMIT) cs
+IsColumn-total m cs few h = All-weaker (IsColumn m) (λ c. total c ≤ ROW_LIMIT * ENTRY_LIMIT) small cs h
+  where
+    small : (c : List ℕ) → IsColumn m c → total c ≤ ROW_LIMIT * ENTRY_LIMIT
+    small c column =
+        let bound : total c ≤ length c * ENTRY_LIMIT = total-limit ENTRY_LIMIT c column.limit in
+        let len : length c ≡ m = column.entries in
+        let most : length c * ENTRY_LIMIT ≤ ROW_LIMIT * ENTRY_LIMIT = omega arith in
         omega arith
 
 -- columns that have entries within the limit and a positive sum are columns of an instance
-pub are_columns : (m n : ℕ) (es : List ℕ) → All (λ a. a ≤ 1000000) es → All (λ s. 1 ≤ s) (map total (columns_of m n es)) → All (IsColumn m) (columns_of m n es)
+pub are_columns : (m n : ℕ) (es : List ℕ) → All (λ a. a ≤ ENTRY_LIMIT) es → All (λ s. 1 ≤ s) (map total (columns_of m n es)) → All (IsColumn m) (columns_of m n es)
 are_columns m n es limit positive i d l =
-    let at : (length (get_or (columns_of m n es) i d) ≡ m) × All (λ a. a ≤ 1000000) (get_or (columns_of m n es) i d) = columns-limit 1000000 m n es limit i d l in
+    let at : (length (get_or (columns_of m n es) i d) ≡ m) × All (λ a. a ≤ ENTRY_LIMIT) (get_or (columns_of m n es) i d) = columns-limit ENTRY_LIMIT m n es limit i d l in
     let in-sums : i < length (map total (columns_of m n es)) = subst (λ k. i < k) (sym (length-map (columns_of m n es) total)) l in
     let sum : 1 ≤ get_or (map total (columns_of m n es)) i 0 = positive i 0 in-sums in
     let same : get_or (map total (columns_of m n es)) i 0 ≡ total (get_or (columns_of m n es) i d) = get_or-map total (columns_of m n es) i d 0 l in
@@ -80,3 +92,11 @@ pub set-zeros : (n m j : ℕ) → j < n → set (zeros (n + m)) j 1 ≡ unit n j
 set-zeros n m j l =
     let len : length (zeros n) ≡ n = length-zeros n in
     ap (λ p. set p j 1) (sym (zeros-append n m)) ∙ set-append_left (zeros n) (zeros m) j 1 (omega arith) ∙ ap (λ p. p ++ zeros m) (set_in_zeros n j l)
+
+abbrev by_columns : ℕ → List (List ℕ) → List ℤ → Problem
+by_columns m cs costs = record { rows = m; columns = cs; cost_rows = rows_of (length costs / length cs) (length cs) costs }
+
+-- the instance by its columns is that of the numbers
+pub problem_same : (m n : ℕ) (es : List ℕ) (costs : List ℤ) (cs : List (List ℕ)) → cs ≡ columns_of m n es → length cs ≡ n →
+    by_columns m cs costs ≡ problem_of m n es costs
+problem_same m n es costs cs same count i = record { rows = m; columns = same i; cost_rows = rows_of (length costs / count i) (count i) costs }

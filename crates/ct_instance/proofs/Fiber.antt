@@ -216,3 +216,7 @@ below_positive i h p q e f s d = ⊎_elim (λ z. absurd (below_differs i q p d (
         let zero_point : p ≡ zeros (length p) = zeros_from_total p z in
         let grade : grade_of i.columns p ≡ 0 = grade-zeros i.rows i.columns (columns i h) p e z in
         zeros_from_grade i.rows i.columns (columns i h) q (ap total s ∙ grade) ∙ ap zeros (f ∙ sym e) ∙ sym zero_point
+
+pub improvable_not_least : (i : Problem) → IsInstance i → (p : List ℕ) → IsPoint i p → IsImprovable i p ↔ (IsLeast i (degree_of i.columns p) p → ⊥)
+improvable_not_least i h p e =
+    (λ m l. least_not_improvable i (degree_of i.columns p) p l m, λ n. ⊎_elim (λ l. absurd (n l)) (λ m. m) (least_or_improvable i h p e))

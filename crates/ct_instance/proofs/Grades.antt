@@ -1,7 +1,6 @@
 -- The grade by the sums of the columns, and how degrees grow column by column.
-use Rattle.std.proofs.Common.{◌≡◌, ℕ, ◌+◌, ◌*◌, ◌-◌, ◌≤◌, ◌<◌, All, List, [], ◌∷◌, length, drop, get_or, map, refl, ap, ◌∙◌, arith, zero, suc}
-use Rattle.std.proofs.lemmas.List.{drop_more, length-drop}
-use Rattle.std.proofs.lemmas.List.Elements.{All-tail, All-drop}
+use Rattle.std.proofs.Common.{◌≡◌, ℕ, ◌+◌, ◌*◌, ◌≤◌, ◌<◌, List, [], ◌∷◌, length, drop, get_or, map, refl, ap, ◌∙◌, arith, zero, suc}
+use Rattle.std.proofs.lemmas.List.{drop_more}
 use Rattle.ct_vectors.specs.Vectors.{total, add, scale}
 use Rattle.ct_vectors.proofs.Sums.{total-add, total-scale}
 use Rattle.ct_instance.specs.Instance.{degree_of, grade_of, weighted}
@@ -58,24 +57,5 @@ weighted-total [] p = omega arith
 weighted-total (s ∷ ss) [] = omega arith
 weighted-total (s ∷ ss) (x ∷ p) = let rest : total (drop (length ss) p) ≤ weighted ss p = weighted-total ss p in omega arith
 
-pub total-limit : (k : ℕ) (p : List ℕ) → All (λ x. x ≤ k) p → total p ≤ length p * k
-total-limit k [] h = omega arith
-total-limit k (x ∷ p) h =
-    let first : x ≤ k = h 0 0 (omega arith) in
-    let rest : total p ≤ length p * k = total-limit k p (All-tail (λ x. x ≤ k) x p h) in
-    limit_more x (total p) (length p) k first rest
-  where
-    limit_more : (x t n k : ℕ) → x ≤ k → t ≤ n * k → x + t ≤ suc n * k
-    limit_more x t n k h l = omega arith
-
 pub product-limit : (a b m n : ℕ) → a ≤ m → b ≤ n → a * b ≤ m * n
 product-limit a b m n h k = grind arith
-
--- the artificials of a point whose coordinates are within the limit
-pub artificials-limit : (n : ℕ) (p : List ℕ) → length p ≤ n + 16 → All (λ x. x ≤ 32000000000000) p → total (drop n p) ≤ 512000000000000
-artificials-limit n p l h =
-    let limit : total (drop n p) ≤ length (drop n p) * 32000000000000 = total-limit 32000000000000 (drop n p) (All-drop (λ x. x ≤ 32000000000000) n p h) in
-    let len : length (drop n p) ≡ length p - n = length-drop n p in
-    let few : length (drop n p) ≤ 16 = omega arith in
-    let most : length (drop n p) * 32000000000000 ≤ 16 * 32000000000000 = omega arith in
-    omega arith

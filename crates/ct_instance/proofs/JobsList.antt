@@ -1,15 +1,21 @@
 -- The listed jobs are all jobs, in job order.
-use Rattle.std.proofs.Common.{ℕ, ◌+◌, ◌-◌, ◌≤◌, ◌<◌, ◌≡◌, ◌↔◌, inl, inr, ⊎_elim, Bool, nat_eq, List, [], ◌∷◌, ◌++◌, length, map, filter, flat_map, Contains, AllPairs, refl, subst, subst₂, arith, zero, suc, eqb-true, eq-eqb}
+use Rattle.std.proofs.Common.{ℕ, ◌+◌, ◌-◌, ◌*◌, sym, get_or, ap, ◌∙◌, append-nil, mul-suc, suc-mul, length-append, ◌≤◌, ◌<◌, ◌≡◌, ◌↔◌, inl, inr, ⊎_elim, Bool, nat_eq, List, [], ◌∷◌, ◌++◌, length, map, filter, flat_map, Contains, AllPairs, refl, subst, subst₂, arith, zero, suc, eqb-true, eq-eqb}
 use Rattle.std.proofs.lemmas.Bool.{cases_lt}
-use Rattle.std.proofs.lemmas.List.Elements.{Contains-append_left, Contains-append_right, Contains-append_cases, Contains-push, Contains-push_cases}
+use Rattle.std.proofs.lemmas.List.{length-map, map-append}
+use Rattle.std.proofs.lemmas.List.Concat.{flat_map-append}
+use Rattle.std.proofs.lemmas.List.Sums.{length-filter, count_by-le-length}
+use Rattle.std.proofs.lemmas.List.Elements.{Contains-get_or, Contains-append_left, Contains-append_right, Contains-append_cases, Contains-push, Contains-push_cases}
+use Rattle.ct_vectors.specs.Vectors.{up_to}
+use Rattle.ct_vectors.proofs.Places.{Contains-up_to, le-up_to}
 use Rattle.ct_instance.specs.declared.jobs.Job.{Job}
 use Rattle.ct_instance.specs.declared.jobs.Job.TheVariants.{Generator, Pair}
 use Rattle.ct_instance.specs.Instance.{Problem, column_count}
 use Rattle.ct_instance.specs.Made.{indices}
 use Rattle.ct_instance.specs.TestSet.{Binomial}
-use Rattle.ct_instance.specs.Jobs.{IsJob, JobComesBefore, job_grade_of, numbers_after, all_jobs, jobs_at}
+use Rattle.ct_instance.specs.Jobs.{IsJob, JobComesBefore, IsEarlierJob, job_grade_of, numbers_after, all_jobs, jobs_at, jobs_up_to}
 use Rattle.ct_instance.proofs.Lists.{Contains-cons_cases, Contains-nil, Contains-map, map_gives, Contains-flat_map, flat_map_gives, Contains-filter, filter_gives}
-use Rattle.ct_instance.proofs.Ordered.{InOrder, InOrder-append, InOrder-map, InOrder-flat_map, InOrder-filter, InOrder-pairs}
+use Rattle.ct_instance.proofs.Entries.{length-indices}
+use Rattle.ct_instance.proofs.Ordered.{InOrder, InOrder-append, InOrder-map, InOrder-flat_map, InOrder-filter, InOrder-pairs, InOrder-from_pairs, InOrder-up_to}
 
 -- ---- numbers
 
@@ -120,3 +126,82 @@ jobs_of_grade_listed i ms g =
 
     back : (j : Job) → IsJob i ms j × (job_grade_of i ms j ≡ g) → Contains (filter test (all_jobs i ms)) j
     back j b = Contains-filter test (all_jobs i ms) j (job_is_listed i ms j b.0) (eq-eqb (job_grade_of i ms j) g b.1)
+
+-- ---- how many there are
+
+length-numbers_after : (a b : ℕ) → length (numbers_after a b) ≡ b - a
+length-numbers_after a b = length-map (indices (b - a)) (λ k. a + suc k) ∙ length-indices (b - a)
+
+one_more : (s r n l p q : ℕ) → suc n ≤ l → r ≡ l - suc n → 2 * s + n * suc n ≡ 2 * (n * l) → p ≡ n * suc n + suc n + suc n → q ≡ n * l + l → 2 * (s + r) + p ≡ 2 * q
+one_more s r n l p q m e f g h = omega arith
+
+-- the pairs whose smaller number is one of the first n
+length-rows : (ms : List Binomial) (n : ℕ) → n ≤ length ms →
+    2 * length (flat_map (pairs_of ms) (map (λ k. 0 + suc k) (indices n))) + n * suc n ≡ 2 * (n * length ms)
+length-rows ms zero l = omega arith
+length-rows ms (suc n) l =
+    let rows : List ℕ = map (λ k. 0 + suc k) (indices n) in
+    let row : List Job = pairs_of ms (0 + suc n) in
+    let e : flat_map (pairs_of ms) (map (λ k. 0 + suc k) (indices n ++ n ∷ [])) ≡ flat_map (pairs_of ms) rows ++ (row ++ []) =
+    ap (flat_map (pairs_of ms)) (map-append (λ k. 0 + suc k) (indices n) (n ∷ [])) ∙ flat_map-append (pairs_of ms) rows ((0 + suc n) ∷ []) in
+    let one : length (row ++ []) ≡ length ms - suc n =
+    ap length (append-nil row) ∙ length-map (numbers_after (0 + suc n) (length ms)) (Pair (0 + suc n)) ∙
+    length-numbers_after (0 + suc n) (length ms) ∙ (let z : length ms - (0 + suc n) ≡ length ms - suc n = omega arith in z) in
+    let p : suc n * suc (suc n) ≡ n * suc n + suc n + suc n = mul-suc (suc n) (suc n) ∙ (let z : suc n * suc n + suc n ≡ n * suc n + suc n + suc n = ap (λ x. x + suc n) (suc-mul n (suc n)) in z) in
+    let q : suc n * length ms ≡ n * length ms + length ms = suc-mul n (length ms) in
+    ap (λ x. 2 * x + suc n * suc (suc n)) (ap length e ∙ length-append (flat_map (pairs_of ms) rows) (row ++ [])) ∙
+    one_more (length (flat_map (pairs_of ms) rows)) (length (row ++ [])) n (length ms) (suc n * suc (suc n)) (suc n * length ms) l one (length-rows ms n (omega arith)) p q
+
+pub jobs_counted : (i : Problem) (ms : List Binomial) → 2 * length (all_jobs i ms) + length ms ≡ 2 * column_count i + length ms * length ms
+unfolding all_jobs
+jobs_counted i ms =
+    let generators : List Job = map Generator (numbers_after 0 (column_count i)) in
+    let pairs : List Job = flat_map (pairs_of ms) (numbers_after 0 (length ms)) in
+    let columns : length generators ≡ column_count i =
+    length-map (numbers_after 0 (column_count i)) Generator ∙ length-numbers_after 0 (column_count i) ∙ (let z : column_count i - 0 ≡ column_count i = omega arith in z) in
+    let all : length ms ≡ length ms - 0 = omega arith in
+    let rows : 2 * length pairs + length ms * suc (length ms) ≡ 2 * (length ms * length ms) =
+    subst (λ n. 2 * length (flat_map (pairs_of ms) (map (λ k. 0 + suc k) (indices n))) + length ms * suc (length ms) ≡ 2 * (length ms * length ms)) all
+    (length-rows ms (length ms) (omega arith)) in
+    let square : length ms * suc (length ms) ≡ length ms * length ms + length ms = mul-suc (length ms) (length ms) in
+    omega (arith, length-append generators pairs)
+
+-- those of one grade are no more
+pub jobs_of_grade_fewer : (i : Problem) (ms : List Binomial) (g : ℕ) → length (jobs_at i ms g) ≤ length (all_jobs i ms)
+unfolding jobs_at
+jobs_of_grade_fewer i ms g =
+    omega (arith, length-filter (λ j. nat_eq (job_grade_of i ms j) g) (all_jobs i ms), count_by-le-length (λ j. nat_eq (job_grade_of i ms j) g) (all_jobs i ms))
+
+-- ---- the jobs up to a grade, by grade first
+
+pub jobs_up_to_listed : (i : Problem) (ms : List Binomial) (g : ℕ) →
+    ((j : Job) → Contains (jobs_up_to i ms g) j ↔ (IsJob i ms j × (job_grade_of i ms j ≤ g))) × AllPairs (IsEarlierJob i ms) (jobs_up_to i ms g)
+unfolding jobs_up_to
+jobs_up_to_listed i ms g =
+    (λ j. (there j, back j), InOrder-pairs (IsEarlierJob i ms) (flat_map (jobs_at i ms) (up_to g)) in_order)
+  where
+    at : (d : ℕ) (j : Job) → Contains (jobs_at i ms d) j → IsJob i ms j × (job_grade_of i ms j ≡ d)
+    at d j c = ((jobs_of_grade_listed i ms d).0 j).0 c
+
+    there : (j : Job) → Contains (flat_map (jobs_at i ms) (up_to g)) j → IsJob i ms j × (job_grade_of i ms j ≤ g)
+    there j c = let r = flat_map_gives (jobs_at i ms) (up_to g) j c in let t = at r.0 j r.2 in (t.0, omega (arith, t.1, le-up_to g r.0 r.1))
+
+    back : (j : Job) → IsJob i ms j × (job_grade_of i ms j ≤ g) → Contains (flat_map (jobs_at i ms) (up_to g)) j
+    back j b =
+        Contains-flat_map (jobs_at i ms) (up_to g) (job_grade_of i ms j) j (Contains-up_to g (job_grade_of i ms j) b.1)
+        (((jobs_of_grade_listed i ms (job_grade_of i ms j)).0 j).1 (b.0, refl))
+
+    within : (d : ℕ) → InOrder (IsEarlierJob i ms) (jobs_at i ms d)
+    within d =
+        InOrder-from_pairs (IsEarlierJob i ms) (jobs_at i ms d)
+        (λ m n e l k. inr (
+          (at d (get_or (jobs_at i ms d) m e) (Contains-get_or (jobs_at i ms d) m e (omega arith))).1 ∙
+              sym (at d (get_or (jobs_at i ms d) n e) (Contains-get_or (jobs_at i ms d) n e k)).1,
+          (jobs_of_grade_listed i ms d).1 m n e l k,
+        ))
+
+    apart : (c d : ℕ) (j k : Job) → c < d → Contains (jobs_at i ms c) j → Contains (jobs_at i ms d) k → IsEarlierJob i ms j k
+    apart c d j k l x y = inl (omega (arith, (at c j x).1, (at d k y).1))
+
+    in_order : InOrder (IsEarlierJob i ms) (flat_map (jobs_at i ms) (up_to g))
+    in_order = InOrder-flat_map Less (IsEarlierJob i ms) (jobs_at i ms) within apart (up_to g) (InOrder-up_to g)

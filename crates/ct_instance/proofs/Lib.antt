@@ -8,4 +8,7 @@ pub mod TestList
 pub mod Grades
 pub mod Entries
 pub mod JobsList
+pub mod Above
+pub mod Points
 mod Worked
+mod WorkedRows

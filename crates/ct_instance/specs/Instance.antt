@@ -1,6 +1,8 @@
 -- An integer program: the least cost of a list x of natural numbers with A x = b, for each b.
-use Rattle.std.specs.Prelude.{ℕ, ℤ, nat_abs, ◌+◌, ◌*◌, ◌≤◌, ◌≡◌, List, [], ◌∷◌, ◌++◌, length, All}
+use Rattle.std.specs.Prelude.{ℕ, ℤ, ◌+◌, ◌*◌, ◌≤◌, ◌≡◌, List, [], ◌∷◌, ◌++◌, length, All}
 use Rattle.ct_vectors.specs.Vectors.{total, add, scale, zeros, unit}
+use Rattle.ct_vectors.specs.declared.limits.TheConstants.{ROW_LIMIT, COLUMN_LIMIT, COST_ROW_LIMIT, ENTRY_LIMIT}
+use Rattle.ct_order.specs.Costs.{IsCostRow}
 
 -- what an instance is seen as: m, the columns of A (a list of m numbers each), and the rows of costs
 pub record Problem : Type 0 where
@@ -21,21 +23,17 @@ IsPoint i p = length p ≡ width_of i
 -- a column has m entries within the limit, and one of them isn't 0
 pub record IsColumn (m : ℕ) (c : List ℕ) : Type 0 where
   pub entries : length c ≡ m
-  pub limit : All (λ a. a ≤ 1000000) c
+  pub limit : All (λ a. a ≤ ENTRY_LIMIT) c
   pub positive : 1 ≤ total c
-
--- a row of costs has n entries within the limit
-pub record IsCostRow (n : ℕ) (row : List ℤ) : Type 0 where
-  pub entries : length row ≡ n
-  pub limit : All (λ c. nat_abs c ≤ 1000000000000) row
 
 pub record IsInstance (i : Problem) : Type 0 where
   pub some_row : 1 ≤ i.rows
-  pub row_limit : i.rows ≤ 16
+  pub row_limit : i.rows ≤ ROW_LIMIT
   pub some_column : 1 ≤ column_count i
-  pub column_limit : column_count i ≤ 64
+  pub column_limit : column_count i ≤ COLUMN_LIMIT
   pub is_column : All (IsColumn i.rows) i.columns
   pub some_cost_row : 1 ≤ length i.cost_rows
+  pub cost_row_limit : length i.cost_rows ≤ COST_ROW_LIMIT
   pub is_cost_row : All (IsCostRow (column_count i)) i.cost_rows
 
 -- a right-hand side: m numbers

@@ -1,7 +1,7 @@
 -- The jobs of a list of moves: a generator for each column, and a critical pair for each two moves.
 use Rattle.std.specs.Prelude.{ℕ, ◌+◌, ◌-◌, ◌≤◌, ◌<◌, ◌≡◌, ◌⊎◌, nat_eq, List, [], ◌++◌, filter, map, length, unwrap_or, slice_get, zero, suc}
 use Rattle.std.specs.List.{flat_map}
-use Rattle.ct_vectors.specs.Vectors.{add, subtract, lcm, total, Disjoint}
+use Rattle.ct_vectors.specs.Vectors.{add, subtract, lcm, total, Disjoint, up_to}
 use Rattle.ct_instance.specs.declared.jobs.Job.{Job}
 use Rattle.ct_instance.specs.declared.jobs.Job.TheVariants.{Generator, Pair}
 use Rattle.ct_instance.specs.Instance.{Problem, column_count, degree_of, start_of, unit_of}
@@ -23,7 +23,7 @@ abbrev pub IsJob : Problem → List Binomial → Job → Type 0
 IsJob i ms (Generator j) = (1 ≤ j) × (j ≤ column_count i)
 IsJob i ms (Pair a b) = (1 ≤ a) × (a < b) × (b ≤ length ms)
 
--- the order in which the jobs of one grade are taken: generators before pairs, generators by column, pairs by the
+-- job order, in which the jobs of one grade are taken: generators before pairs, generators by column, pairs by the
 -- smaller number and then by the greater
 abbrev pub JobComesBefore : Job → Job → Type 0
 JobComesBefore (Generator j) (Generator k) = j < k
@@ -57,7 +57,7 @@ IsCoprime ms (Pair a b) = Disjoint (the_move ms a).head (the_move ms b).head
 abbrev pub numbers_after : ℕ → ℕ → List ℕ
 numbers_after a b = map (λ k. a + suc k) (indices (b - a))
 
--- all jobs, in job order
+-- all jobs, whatever their grade, in the order of one grade
 unfoldable pub all_jobs : Problem → List Binomial → List Job
 all_jobs i ms =
     map Generator (numbers_after 0 (column_count i)) ++ flat_map (λ a. map (Pair a) (numbers_after a (length ms))) (numbers_after 0 (length ms))
@@ -65,3 +65,12 @@ all_jobs i ms =
 -- the jobs of one grade, in job order
 unfoldable pub jobs_at : Problem → List Binomial → ℕ → List Job
 jobs_at i ms g = filter (λ j. nat_eq (job_grade_of i ms j) g) (all_jobs i ms)
+
+-- over several grades, jobs are taken by their grade first
+abbrev pub IsEarlierJob : Problem → List Binomial → Job → Job → Type 0
+IsEarlierJob i ms j k =
+    (job_grade_of i ms j < job_grade_of i ms k) ⊎ ((job_grade_of i ms j ≡ job_grade_of i ms k) × JobComesBefore j k)
+
+-- the jobs up to a grade, by grade first
+unfoldable pub jobs_up_to : Problem → List Binomial → ℕ → List Job
+jobs_up_to i ms g = flat_map (jobs_at i ms) (up_to g)

@@ -1,13 +1,13 @@
 -- What holds of fibers, answers and test heads. Each statement is the contract of a function in the module `laws`.
-use Rattle.std.specs.Prelude.{ℕ, ℤ, ◌≤◌, ◌≡◌, ◌↔◌, true, List, ◌++◌, Contains, AllPairs}
-use Rattle.ct_vectors.specs.Vectors.{zeros, Divides, Disjoint}
+use Rattle.std.specs.Prelude.{ℕ, ℤ, ◌+◌, ◌*◌, length, ◌≤◌, ◌≡◌, ◌↔◌, true, List, ◌++◌, Contains, AllPairs}
+use Rattle.ct_vectors.specs.Vectors.{zeros, Divides, divides, Disjoint}
 use Rattle.ct_order.specs.Order.{art_total_of}
 use Rattle.ct_instance.specs.Instance.{Problem, IsInstance, IsPoint, IsRight, column_count, degree_of}
 use Rattle.ct_instance.specs.Fiber.{fiber_of, least_of, IsInFiber, IsBelow, IsLeast}
 use Rattle.ct_instance.specs.Answer.{IsSolution, costs_of, optimum, infeasible, answer_of}
 use Rattle.ct_instance.specs.TestSet.{Binomial, IsImprovable, is_improvable, IsTestHead, is_test_head, test_list, IsTestList}
 use Rattle.ct_instance.specs.declared.jobs.Job.{Job}
-use Rattle.ct_instance.specs.Jobs.{IsJob, JobComesBefore, job_grade_of, all_jobs, jobs_at}
+use Rattle.ct_instance.specs.Jobs.{IsJob, JobComesBefore, IsEarlierJob, job_grade_of, all_jobs, jobs_at, jobs_up_to}
 
 -- ---- fibers
 
@@ -61,6 +61,14 @@ ImprovableIsTested = (i : Problem) → IsInstance i → (p : List ℕ) → IsPoi
 abbrev pub TestHeadIsTested : Type 0
 TestHeadIsTested = (i : Problem) → IsInstance i → (p : List ℕ) → IsPoint i p → (is_test_head i p ≡ true) ↔ IsTestHead i p
 
+-- improvable means not the least of its fiber
+abbrev pub ImprovableIsNotLeast : Type 0
+ImprovableIsNotLeast = (i : Problem) → IsInstance i → (p : List ℕ) → IsPoint i p → IsImprovable i p ↔ (IsLeast i (degree_of i.columns p) p → ⊥)
+
+-- one list divides another by the test exactly where it is at most the other in each coordinate
+abbrev pub DividesIsTested : Type 0
+DividesIsTested = (h p : List ℕ) → (divides h p ≡ true) ↔ Divides h p
+
 -- ---- test heads
 
 -- a point is improvable exactly where a test head divides it
@@ -88,7 +96,7 @@ TestListsGrow = (i : Problem) (g h : ℕ) → g ≤ h → (more : List Binomial)
 
 -- ---- jobs
 
--- the listed jobs are the jobs of the list of moves, each before all later ones
+-- the listed jobs are the jobs of the list of moves, each before all later ones in the order of one grade
 abbrev pub JobsAreListed : Type 0
 JobsAreListed = (i : Problem) (ms : List Binomial) → ((j : Job) → Contains (all_jobs i ms) j ↔ IsJob i ms j) × AllPairs JobComesBefore (all_jobs i ms)
 
@@ -97,3 +105,13 @@ abbrev pub JobsOfGradeAreListed : Type 0
 JobsOfGradeAreListed =
     (i : Problem) (ms : List Binomial) (g : ℕ) →
     ((j : Job) → Contains (jobs_at i ms g) j ↔ (IsJob i ms j × (job_grade_of i ms j ≡ g))) × AllPairs JobComesBefore (jobs_at i ms g)
+
+-- those up to a grade are the jobs of at most that grade, by grade first
+abbrev pub JobsUpToAreListed : Type 0
+JobsUpToAreListed =
+    (i : Problem) (ms : List Binomial) (g : ℕ) →
+    ((j : Job) → Contains (jobs_up_to i ms g) j ↔ (IsJob i ms j × (job_grade_of i ms j ≤ g))) × AllPairs (IsEarlierJob i ms) (jobs_up_to i ms g)
+
+-- how many jobs there are: the columns, and each two moves once
+abbrev pub JobsAreCounted : Type 0
+JobsAreCounted = (i : Problem) (ms : List Binomial) → 2 * length (all_jobs i ms) + length ms ≡ 2 * column_count i + length ms * length ms

@@ -6,4 +6,5 @@ pub mod TestSet
 pub mod Walk
 pub mod Jobs
 pub mod Versions
+pub mod Reach
 pub mod Laws

@@ -1,18 +1,23 @@
-ghost use Rattle.std.specs.Prelude.{◌≡◌, ◌≢◌, ◌+◌, ◌-◌, ◌*◌, ◌<◌, ◌≤◌, ◌++◌, [], ◌∷◌, None, Some, IsOk, length, All, slice_index, IfOk, IfErr};
+//! The checked instance.
+ghost use Rattle.std.specs.Prelude.{◌≡◌, ◌≢◌, ◌+◌, ◌-◌, ◌*◌, ◌/◌, ◌%◌, ◌<◌, ◌≤◌, ◌++◌, [], ◌∷◌, None, Some, IsOk, length, map, nat_abs, All, slice_index, IfOk, IfErr, OnOk};
 ghost use Rattle.ct_vectors.specs.Vectors.{total, zeros};
+ghost use Rattle.ct_vectors.specs.declared.limits.TheConstants.{ROW_LIMIT, COLUMN_LIMIT, COST_ROW_LIMIT, ENTRY_LIMIT, COST_LIMIT, JOB_GRADE_LIMIT};
+ghost use Rattle.ct_order.specs.Costs.{rows_of};
 
-use crate::making::{check_costs, check_entries, check_sums, columns_from, sums_of};
-use crate::refusals::BadInstance;
+use crate::making::{check_costs, check_entries, matrix_from};
+use crate::refusals::{BadInstance, BadMatrix};
 use crate::sums::{degree_by_columns, grade_by_sums, wide_grade_by_sums};
 use ct_order::Costs;
 use ct_point::Point;
+use ct_vectors::limits::{COLUMN_LIMIT, ROW_LIMIT};
 use std::alloc::{AllocError, Global};
 use std::marker::Model;
 
-/// A checked instance: m rows, n columns of m entries each, none of them zero, and a cost for each column.
+/// A checked instance: m rows, n columns of m entries each, none of them zero, and one to eight rows of a cost for each
+/// column.
 ///
-/// It keeps each column as a point, which has room for 16 entries in itself whatever m is, and the sum and the cost of
-/// each: about 16 words and two more a column.
+/// It keeps each column as a point, which has room for 16 entries in itself whatever m is, with its sum, and the costs:
+/// about 16 words a column, one more for its sum and one for each of its costs.
 #[derive(Debug, Drop)]
 pub struct Instance {
     rows: usize,
@@ -22,25 +27,25 @@ pub struct Instance {
 }
 
 impl Model for Instance {
-    ghost use Rattle.std.specs.Prelude.{[], ◌∷◌, map, ◌≡◌, ◌≤◌, All};
-    ghost use Rattle.ct_vectors.specs.Vectors.{total};
-    ghost use Rattle.ct_instance.specs.Instance.{Problem, IsInstance};
+    ghost use Rattle.ct_instance.specs.Instance.{Problem};
+    ghost use Rattle.ct_instance.specs.Made.{IsKept};
 
     ghost Value = { Problem };
 
-    ghost view = { λ i. record { rows = i.rows; columns = i.columns.items; cost_rows = i.costs ∷ [] } };
+    ghost view = { λ i. record { rows = i.rows; columns = i.columns.items; cost_rows = i.costs.rows } };
 
-    ghost invariant = { λ i. IsInstance (record { rows = i.rows; columns = i.columns.items; cost_rows = i.costs ∷ [] }) × (i.sums.items ≡ map total i.columns.items) × All (λ s. s ≤ 16000000) i.sums.items };
+    ghost invariant = { λ i. IsKept (record { rows = i.rows; columns = i.columns.items; cost_rows = i.costs.rows }) i.sums.items i.costs.columns };
 }
 
 impl Instance {
-    ghost use Rattle.ct_instance.specs.Instance.{IsInstance, IsPoint, column_count, width_of, grade_of, degree_of, start_of, unit_of};
-    ghost use Rattle.ct_instance.specs.Made.{problem_of, refusal_of, refused_rows, refused_columns};
+    ghost use Rattle.ct_instance.specs.Instance.{IsInstance, IsColumn, IsPoint, column_count, width_of, grade_of, degree_of, start_of, unit_of};
+    ghost use Rattle.ct_instance.specs.Made.{problem_of, refusal_of, refused_rows, refused_columns, zero_column_of, NamesZeroColumn};
     ghost use Rattle.ct_instance.specs.Jobs.{the_column};
 
-    /// The instance with these entries, row after row, and these costs. It refuses the first thing that is wrong:
-    /// the count of rows, of columns, an entry over the limit, a zero column, a cost out of its limit. Want of memory
-    /// may come in place of what is found after the two counts. It is linear in the number of entries.
+    /// The instance with these entries, row after row, and these costs, one to eight rows of one cost a column that
+    /// stand one after another. It refuses the first thing that is wrong: the count of rows, of columns, an entry over
+    /// the limit, a zero column, a cost out of its limit. Want of memory may come in place of what is found after the
+    /// two counts. It is linear in the number of entries and costs.
     pub fn new(
         alloc: Global,
         rows: u32,
@@ -49,16 +54,18 @@ impl Instance {
         cost: &[i64],
     ) -> Result<Instance, BadInstance>
         requires entry_count { length entries.now ≡ rows * columns }
-        requires cost_count { length cost.now ≡ columns }
+        requires whole_rows { 1 ≤ columns → columns ≤ COLUMN_LIMIT → length cost.now % columns ≡ 0 }
+        requires some_cost_row { 1 ≤ columns → columns ≤ COLUMN_LIMIT → columns ≤ length cost.now }
+        requires cost_row_limit { 1 ≤ columns → columns ≤ COLUMN_LIMIT → length cost.now ≤ COST_ROW_LIMIT * columns }
         ensures ok { IfOk result (λ i. i ≡ problem_of rows columns entries.now cost.now) }
         ensures accepted { IsOk result → refusal_of rows columns entries.now cost.now ≡ None }
         ensures refused { IfErr result (λ e. e ≢ BadInstance.Memory → refusal_of rows columns entries.now cost.now ≡ Some e) }
         ensures memory { IfErr result (λ e. e ≡ BadInstance.Memory → (refused_rows rows ≡ None) × (refused_columns columns ≡ None)) }
     {
-        if rows < 1 || rows > 16 {
+        if rows < 1 || rows > ROW_LIMIT as u32 {
             return Err(BadInstance::Rows);
         }
-        if columns < 1 || columns > 64 {
+        if columns < 1 || columns > COLUMN_LIMIT as u32 {
             return Err(BadInstance::Columns);
         }
         Instance::with_counts(alloc, rows, columns, entries, cost)
@@ -73,24 +80,75 @@ impl Instance {
         cost: &[i64],
     ) -> Result<Instance, BadInstance>
         requires some_row { 1 ≤ rows }
-        requires few_rows { rows ≤ 16 }
+        requires few_rows { rows ≤ ROW_LIMIT }
         requires some_column { 1 ≤ columns }
-        requires few_columns { columns ≤ 64 }
+        requires few_columns { columns ≤ COLUMN_LIMIT }
         requires entry_count { length entries.now ≡ rows * columns }
-        requires cost_count { length cost.now ≡ columns }
+        requires whole_rows { length cost.now % columns ≡ 0 }
+        requires some_cost_row { columns ≤ length cost.now }
+        requires cost_row_limit { length cost.now ≤ COST_ROW_LIMIT * columns }
         ensures ok { IfOk result (λ i. i ≡ problem_of rows columns entries.now cost.now) }
         ensures accepted { IsOk result → refusal_of rows columns entries.now cost.now ≡ None }
         ensures refused { IfErr result (λ e. e ≢ BadInstance.Memory → refusal_of rows columns entries.now cost.now ≡ Some e) }
     {
         check_entries(columns, entries)?;
-        let points = columns_from(alloc, rows as usize, columns as usize, entries)?;
-        let sums = sums_of(alloc, &points)?;
-        check_sums(&sums)?;
-        check_costs(cost)?;
-        let costs = Costs::new(alloc, cost)?;
+        let (points, sums) = matrix_from(alloc, rows as usize, columns as usize, entries)?;
+        check_costs(columns, cost)?;
+        let made = Instance::with_matrix(alloc, rows as usize, points, sums, cost)?;
+        Ok(made)
+    }
+
+    /// The same, where each number is within its limit. All that it can refuse is a zero column.
+    pub fn from_limited(
+        alloc: Global,
+        rows: u32,
+        columns: u32,
+        entries: &[u64],
+        cost: &[i64],
+    ) -> Result<Instance, BadMatrix>
+        requires some_row { 1 ≤ rows }
+        requires row_limit { rows ≤ ROW_LIMIT }
+        requires some_column { 1 ≤ columns }
+        requires column_limit { columns ≤ COLUMN_LIMIT }
+        requires entry_count { length entries.now ≡ rows * columns }
+        requires entry_limit { All (λ a. a ≤ ENTRY_LIMIT) entries.now }
+        requires whole_rows { length cost.now % columns ≡ 0 }
+        requires some_cost_row { columns ≤ length cost.now }
+        requires cost_row_limit { length cost.now ≤ COST_ROW_LIMIT * columns }
+        requires cost_limit { All (λ c. nat_abs c ≤ COST_LIMIT) cost.now }
+        ensures ok { IfOk result (λ i. i ≡ problem_of rows columns entries.now cost.now) }
+        ensures none { OnOk result (zero_column_of rows columns entries.now ≡ None) }
+        ensures zero_column { IfErr result (λ e. NamesZeroColumn e (zero_column_of rows columns entries.now)) }
+    {
+        let (points, sums) = matrix_from(alloc, rows as usize, columns as usize, entries)?;
+        let made = Instance::with_matrix(alloc, rows as usize, points, sums, cost)?;
+        Ok(made)
+    }
+
+    // The instance of these columns, their sums, and rows of costs.
+    fn with_matrix(
+        alloc: Global,
+        rows: usize,
+        columns: Vec<Point>,
+        sums: Vec<u64>,
+        cost: &[i64],
+    ) -> Result<Instance, AllocError>
+        requires some_row { 1 ≤ rows }
+        requires row_limit { rows ≤ ROW_LIMIT }
+        requires some_column { 1 ≤ length columns.items }
+        requires column_limit { length columns.items ≤ COLUMN_LIMIT }
+        requires are_columns { All (IsColumn rows) columns.items }
+        requires sums_of_columns { sums.items ≡ map total columns.items }
+        requires whole_rows { length cost.now % length columns.items ≡ 0 }
+        requires some_cost_row { length columns.items ≤ length cost.now }
+        requires cost_row_limit { length cost.now ≤ COST_ROW_LIMIT * length columns.items }
+        requires cost_limit { All (λ c. nat_abs c ≤ COST_LIMIT) cost.now }
+        ensures { IfOk result (λ i. i ≡ record { rows = rows; columns = columns.items; cost_rows = rows_of (length cost.now / length columns.items) (length columns.items) cost.now }) }
+    {
+        let costs = Costs::new(alloc, columns.len(), cost)?;
         Ok(Instance {
-            rows: rows as usize,
-            columns: points,
+            rows,
+            columns,
             sums,
             costs,
         })
@@ -112,10 +170,10 @@ impl Instance {
         self.columns.len()
     }
 
-    /// The costs of the columns.
+    /// The rows of costs.
     pub fn costs(&self) -> &Costs
-        ensures costs { self.now.cost_rows ≡ result.now ∷ [] }
-        ensures count { length result.now ≡ column_count self.now }
+        ensures rows { result.now.rows ≡ self.now.cost_rows }
+        ensures columns { result.now.columns ≡ column_count self.now }
         ensures instance { IsInstance self.now }
     {
         &self.costs
@@ -143,11 +201,20 @@ impl Instance {
         &self.columns[col - 1]
     }
 
+    /// The sum of each column, in order.
+    pub fn sums(&self) -> &[u64]
+        ensures sums { result.now ≡ map total self.now.columns }
+        ensures count { length result.now ≡ column_count self.now }
+        ensures instance { IsInstance self.now }
+    {
+        &self.sums
+    }
+
     /// The grade, for a point whose coordinates are within the limit of what may come up: it is below 2^128. It is
     /// linear in the width of the point.
     pub fn grade_wide(&self, p: &Point) -> u128
         requires point { IsPoint self.now p.now }
-        requires limit { All (λ x. x ≤ 32000000000000) p.now }
+        requires limit { All (λ x. x ≤ JOB_GRADE_LIMIT) p.now }
         ensures { result ≡ grade_of self.now.columns p.now }
     {
         wide_grade_by_sums(&self.sums, p.as_slice())
@@ -156,7 +223,7 @@ impl Instance {
     /// The grade, where it is within the limit. It is linear in the width of the point.
     pub fn grade(&self, p: &Point) -> u64
         requires point { IsPoint self.now p.now }
-        requires limit { grade_of self.now.columns p.now ≤ 32000000000000 }
+        requires limit { grade_of self.now.columns p.now ≤ JOB_GRADE_LIMIT }
         ensures { result ≡ grade_of self.now.columns p.now }
     {
         grade_by_sums(&self.sums, p.as_slice())
@@ -166,7 +233,7 @@ impl Instance {
     pub fn degree_into(&self, p: &Point, out: &mut [u64])
         requires point { IsPoint self.now p.now }
         requires room { length out.old ≡ self.now.rows }
-        requires limit { grade_of self.now.columns p.now ≤ 32000000000000 }
+        requires limit { grade_of self.now.columns p.now ≤ JOB_GRADE_LIMIT }
         ensures { out.new ≡ degree_of self.now.columns p.now }
     {
         out.copy_from_slice(&p.as_slice()[self.columns.len()..]);

@@ -1,3 +1,5 @@
+//! What a completion works on.
+
 /// A unit of work of the completion: what one column, or one pair of moves, may add to the list of moves.
 ///
 /// Numbers count from 1. In their derived order generators come before pairs, generators by column, and pairs

@@ -1,6 +1,6 @@
 //! Laws of the definitions, as contracts of functions that do nothing.
 
-ghost use Rattle.ct_instance.specs.Laws.{FiberIsListed, LeastPointIsLeast, SolutionsAreInFibers, AnswerIsLeastSolution, AnswerIsShort, ShortHasNoSolution, ImprovableIsTested, TestHeadIsTested, ImprovableAboveTestHead, TestHeadIsMinimal, TestMoveIsDisjoint, TestListIsOne, TestListsGrow, JobsAreListed, JobsOfGradeAreListed};
+ghost use Rattle.ct_instance.specs.Laws.{FiberIsListed, LeastPointIsLeast, SolutionsAreInFibers, AnswerIsLeastSolution, AnswerIsShort, ShortHasNoSolution, ImprovableIsTested, TestHeadIsTested, DividesIsTested, ImprovableIsNotLeast, ImprovableAboveTestHead, TestHeadIsMinimal, TestMoveIsDisjoint, TestListIsOne, TestListsGrow, JobsAreListed, JobsOfGradeAreListed, JobsUpToAreListed, JobsAreCounted};
 
 /// The listed fiber has exactly the points of its degree, and `least_of` is the one point that is below all others.
 pub fn fiber_has_one_least_point()
@@ -17,10 +17,13 @@ pub fn answer_is_least_solution()
     ensures exactly { ShortHasNoSolution }
 {}
 
-/// The tests `is_improvable` and `is_test_head` agree with what they are named after.
+/// The tests `is_improvable`, `is_test_head` and `divides` agree with what they are named after, and a point is
+/// improvable where it isn't the least of its fiber.
 pub fn tests_agree()
     ensures improvable { ImprovableIsTested }
     ensures test_head { TestHeadIsTested }
+    ensures divides { DividesIsTested }
+    ensures not_least { ImprovableIsNotLeast }
 {}
 
 /// A point is improvable exactly above a test head; test heads are minimal, and share no variable with their tails.
@@ -37,8 +40,11 @@ pub fn test_list_is_one()
     ensures grows { TestListsGrow }
 {}
 
-/// The listed jobs are all jobs of a list of moves, and those listed for a grade are all of that grade, in job order.
+/// The listed jobs are all jobs of a list of moves; those listed for a grade are all of that grade, in job order, and
+/// those listed up to a grade are all up to it, by grade first.
 pub fn jobs_are_listed()
     ensures all { JobsAreListed }
     ensures grade { JobsOfGradeAreListed }
+    ensures up_to_grade { JobsUpToAreListed }
+    ensures count { JobsAreCounted }
 {}

@@ -1,16 +1,15 @@
 //! From the numbers of a file to the columns and sums of an instance.
-ghost use Rattle.std.specs.Prelude.{◌≡◌, ◌*◌, ◌^◌, ◌<◌, ◌≤◌, None, Some, length, map, nat_abs, nat_lt, nat_eq, position, All, IfOk, OnOk, IfSome, IfNone, MatchResult};
+ghost use Rattle.std.specs.Prelude.{◌≡◌, ◌*◌, ◌^◌, ◌<◌, ◌≤◌, None, Some, length, map, nat_abs, nat_lt, nat_eq, position, All, IfOk, OnOk, IfErr, IfSome, IfNone, MatchResult};
 ghost use Rattle.ct_vectors.specs.Vectors.{total};
-ghost use Rattle.ct_instance.specs.Made.{column_of, columns_of, refused_entry, refused_sum, refused_cost};
+ghost use Rattle.ct_vectors.specs.declared.limits.TheConstants.{ROW_LIMIT, COLUMN_LIMIT, ENTRY_LIMIT, COST_LIMIT};
+ghost use Rattle.ct_instance.specs.Instance.{IsColumn};
+ghost use Rattle.ct_instance.specs.Made.{column_of, columns_of, refused_entry, refused_cost, zero_column_of, NamesZeroColumn};
 
-use crate::refusals::BadInstance;
-use crate::sums::sum_of;
+use crate::refusals::{BadInstance, BadMatrix};
+use ct_order::sum;
 use ct_point::Point;
+use ct_vectors::limits::{COST_LIMIT, ENTRY_LIMIT, ROW_LIMIT};
 use std::alloc::{AllocError, Global};
-
-const ENTRY_LIMIT: u64 = 1_000_000;
-
-const COST_LIMIT: u64 = 1_000_000_000_000;
 
 fn first_over(numbers: &[u64], limit: u64) -> Option<usize>
     ensures place { result ≡ position (λ a. nat_lt limit a) numbers.now }
@@ -40,7 +39,7 @@ fn first_cost_over(costs: &[i64], limit: u64) -> Option<usize>
 pub fn check_entries(columns: u32, entries: &[u64]) -> Result<(), BadInstance>
     requires some { 1 ≤ columns }
     requires few { length entries.now < 2 ^ 31 }
-    ensures limit { OnOk result (All (λ a. a ≤ 1000000) entries.now) }
+    ensures limit { OnOk result (All (λ a. a ≤ ENTRY_LIMIT) entries.now) }
     ensures refused { MatchResult result (λ _. refused_entry columns entries.now ≡ None) (λ e. refused_entry columns entries.now ≡ Some e) }
 {
     match first_over(entries, ENTRY_LIMIT) {
@@ -53,26 +52,31 @@ pub fn check_entries(columns: u32, entries: &[u64]) -> Result<(), BadInstance>
 }
 
 // Refuses the first column whose sum is 0.
-pub fn check_sums(sums: &[u64]) -> Result<(), BadInstance>
-    requires { length sums.now ≤ 64 }
+fn check_sums(sums: &[u64]) -> Result<(), BadMatrix>
+    requires { length sums.now ≤ COLUMN_LIMIT }
+    ensures none { OnOk result (position (λ s. nat_eq s 0) sums.now ≡ None) }
     ensures positive { OnOk result (All (λ s. 1 ≤ s) sums.now) }
-    ensures refused { MatchResult result (λ _. refused_sum sums.now ≡ None) (λ e. refused_sum sums.now ≡ Some e) }
+    ensures zero_column { IfErr result (λ e. NamesZeroColumn e (position (λ s. nat_eq s 0) sums.now)) }
 {
     match first_zero(sums) {
         None => Ok(()),
-        Some(j) => Err(BadInstance::ZeroColumn { col: j as u32 + 1 }),
+        Some(j) => Err(BadMatrix::ZeroColumn { col: j as u32 + 1 }),
     }
 }
 
-// Refuses the first cost out of its limit.
-pub fn check_costs(costs: &[i64]) -> Result<(), BadInstance>
-    requires { length costs.now ≤ 64 }
-    ensures limit { OnOk result (All (λ c. nat_abs c ≤ 1000000000000) costs.now) }
-    ensures refused { MatchResult result (λ _. refused_cost costs.now ≡ None) (λ e. refused_cost costs.now ≡ Some e) }
+// Refuses the first cost out of its limit, row by row.
+pub fn check_costs(columns: u32, costs: &[i64]) -> Result<(), BadInstance>
+    requires some { 1 ≤ columns }
+    requires few { length costs.now < 2 ^ 31 }
+    ensures limit { OnOk result (All (λ c. nat_abs c ≤ COST_LIMIT) costs.now) }
+    ensures refused { MatchResult result (λ _. refused_cost columns costs.now ≡ None) (λ e. refused_cost columns costs.now ≡ Some e) }
 {
     match first_cost_over(costs, COST_LIMIT) {
         None => Ok(()),
-        Some(j) => Err(BadInstance::Cost { col: j as u32 + 1 }),
+        Some(k) => Err(BadInstance::Cost {
+            row: (k as u32) / columns + 1,
+            col: (k as u32) % columns + 1,
+        }),
     }
 }
 
@@ -85,13 +89,13 @@ fn column_from(
     entries: &[u64],
 ) -> Result<Point, AllocError>
     requires some { 1 ≤ rows }
-    requires most { rows ≤ 16 }
+    requires most { rows ≤ ROW_LIMIT }
     requires column { j < columns }
-    requires few { columns ≤ 64 }
+    requires few { columns ≤ COLUMN_LIMIT }
     requires entry_count { length entries.now ≡ rows * columns }
     ensures { IfOk result (λ c. c ≡ column_of rows columns j entries.now) }
 {
-    let mut column = [0u64; 16];
+    let mut column = [0u64; ROW_LIMIT];
     for r in 0..rows {
         column[r] = entries[r * columns + j];
     }
@@ -99,15 +103,15 @@ fn column_from(
 }
 
 // The columns in order.
-pub fn columns_from(
+fn columns_from(
     alloc: Global,
     rows: usize,
     columns: usize,
     entries: &[u64],
 ) -> Result<Vec<Point>, AllocError>
     requires some { 1 ≤ rows }
-    requires most { rows ≤ 16 }
-    requires few { columns ≤ 64 }
+    requires most { rows ≤ ROW_LIMIT }
+    requires few { columns ≤ COLUMN_LIMIT }
     requires entry_count { length entries.now ≡ rows * columns }
     ensures { IfOk result (λ v. v.items ≡ columns_of rows columns entries.now) }
 {
@@ -119,13 +123,38 @@ pub fn columns_from(
 }
 
 // The sum of each column.
-pub fn sums_of(alloc: Global, columns: &[Point]) -> Result<Vec<u64>, AllocError>
-    requires { All (λ c. total c ≤ 16000000) columns.now }
+fn sums_of(alloc: Global, columns: &[Point]) -> Result<Vec<u64>, AllocError>
+    requires { All (λ c. total c ≤ ROW_LIMIT * ENTRY_LIMIT) columns.now }
     ensures { IfOk result (λ v. v.items ≡ map total columns.now) }
 {
     let mut sums = Vec::new(alloc);
     for c in columns {
-        sums.push(sum_of(c.as_slice()))?;
+        sums.push(sum(c.as_slice()))?;
     }
     Ok(sums)
+}
+
+// The columns in order and the sum of each, where none is zero.
+pub fn matrix_from(
+    alloc: Global,
+    rows: usize,
+    columns: usize,
+    entries: &[u64],
+) -> Result<(Vec<Point>, Vec<u64>), BadMatrix>
+    requires some { 1 ≤ rows }
+    requires most { rows ≤ ROW_LIMIT }
+    requires few { columns ≤ COLUMN_LIMIT }
+    requires entry_count { length entries.now ≡ rows * columns }
+    requires entry_limit { All (λ a. a ≤ ENTRY_LIMIT) entries.now }
+    ensures columns { IfOk result (λ m. m.0.items ≡ columns_of rows columns entries.now) }
+    ensures count { IfOk result (λ m. length m.0.items ≡ columns) }
+    ensures are_columns { IfOk result (λ m. All (IsColumn rows) m.0.items) }
+    ensures sums { IfOk result (λ m. m.1.items ≡ map total m.0.items) }
+    ensures none { OnOk result (zero_column_of rows columns entries.now ≡ None) }
+    ensures zero_column { IfErr result (λ e. NamesZeroColumn e (zero_column_of rows columns entries.now)) }
+{
+    let points = columns_from(alloc, rows, columns, entries)?;
+    let sums = sums_of(alloc, &points)?;
+    check_sums(&sums)?;
+    Ok((points, sums))
 }

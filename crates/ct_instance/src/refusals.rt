@@ -1,3 +1,4 @@
+//! Why numbers make no instance.
 ghost use Rattle.std.specs.Prelude.{◌≡◌};
 
 use std::alloc::AllocError;
@@ -13,8 +14,8 @@ pub enum BadInstance {
     Entry { row: u32, col: u32 },
     /// The first column whose entries are all 0.
     ZeroColumn { col: u32 },
-    /// The first cost above 10^12 in size.
-    Cost { col: u32 },
+    /// The first cost above 10^12 in size, row by row.
+    Cost { row: u32, col: u32 },
     /// Want of memory.
     Memory,
 }
@@ -26,5 +27,37 @@ impl From<AllocError> for BadInstance {
 
     fn from(_: AllocError) -> BadInstance {
         BadInstance::Memory
+    }
+}
+
+/// Why numbers that are within their limits make no instance.
+#[derive(Clone, Copy, Debug, PartialEq, Eq)]
+pub enum BadMatrix {
+    /// The first column whose entries are all 0, counted from 1.
+    ZeroColumn { col: u32 },
+    /// Want of memory.
+    Memory,
+}
+
+impl From<AllocError> for BadMatrix {
+    ghost use Rattle.ct_instance.specs.declared.refusals.BadMatrix.TheVariants.{Memory};
+
+    ghost from_gives = { λ _ e. e ≡ Memory };
+
+    fn from(_: AllocError) -> BadMatrix {
+        BadMatrix::Memory
+    }
+}
+
+impl From<BadMatrix> for BadInstance {
+    ghost use Rattle.ct_instance.specs.Made.{bad_instance_of};
+
+    ghost from_gives = { λ bad e. e ≡ bad_instance_of bad };
+
+    fn from(bad: BadMatrix) -> BadInstance {
+        match bad {
+            BadMatrix::ZeroColumn { col } => BadInstance::ZeroColumn { col },
+            BadMatrix::Memory => BadInstance::Memory,
+        }
     }
 }

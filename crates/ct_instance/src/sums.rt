@@ -1,21 +1,10 @@
 //! The loops of an instance, over its columns and the coordinates of a point.
 ghost use Rattle.std.specs.Prelude.{◌≡◌, ℕ, ◌+◌, ◌*◌, ◌<◌, ◌≤◌, ◌^◌, length, drop, take, map, All};
 ghost use Rattle.ct_vectors.specs.Vectors.{total, add, scale};
+ghost use Rattle.ct_vectors.specs.declared.limits.TheConstants.{ROW_LIMIT, COLUMN_LIMIT, ENTRY_LIMIT, JOB_GRADE_LIMIT};
 ghost use Rattle.ct_instance.specs.Instance.{degree_of, grade_of, weighted};
 
 use ct_point::Point;
-
-// The sum of the coordinates, where it is known to fit.
-pub fn sum_of(p: &[u64]) -> u64
-    requires { total p.now < 2 ^ 64 }
-    ensures { result ≡ total p.now }
-{
-    let mut sum = 0;
-    for i in 0..p.len() {
-        sum += p[i];
-    }
-    sum
-}
 
 // The sum of coordinate times column sum over the columns, and of the artificials: the grade.
 pub fn grade_by_sums(sums: &[u64], p: &[u64]) -> u64
@@ -28,16 +17,16 @@ pub fn grade_by_sums(sums: &[u64], p: &[u64]) -> u64
     for j in 0..n {
         sum += sums[j] * p[j];
     }
-    sum + sum_of(&p[n..])
+    sum + ct_order::sum(&p[n..])
 }
 
 // The same, wide enough for any point whose coordinates are within the limit.
 pub fn wide_grade_by_sums(sums: &[u64], p: &[u64]) -> u128
-    requires columns { length sums.now ≤ 64 }
+    requires columns { length sums.now ≤ COLUMN_LIMIT }
     requires width { length sums.now ≤ length p.now }
-    requires most { length p.now ≤ length sums.now + 16 }
-    requires sum_limit { All (λ s. s ≤ 16000000) sums.now }
-    requires limit { All (λ x. x ≤ 32000000000000) p.now }
+    requires most { length p.now ≤ length sums.now + ROW_LIMIT }
+    requires sum_limit { All (λ s. s ≤ ROW_LIMIT * ENTRY_LIMIT) sums.now }
+    requires limit { All (λ x. x ≤ JOB_GRADE_LIMIT) p.now }
     ensures { result ≡ weighted sums.now p.now }
 {
     let n = sums.len();
@@ -45,7 +34,7 @@ pub fn wide_grade_by_sums(sums: &[u64], p: &[u64]) -> u128
     for j in 0..n {
         sum += sums[j] as u128 * p[j] as u128;
     }
-    sum + sum_of(&p[n..]) as u128
+    sum + ct_order::sum(&p[n..]) as u128
 }
 
 // The degree becomes x times the column more.

@@ -1,48 +1,61 @@
 //! Values from outside the contracts: two coins of 3 and 5 with the costs 2 and 3.
 
-use crate::{BadInstance, Instance};
+use crate::{BadInstance, BadMatrix, Instance};
+use ct_order::compare;
 use ct_point::Point;
+use std::cmp::Ordering;
 use std::test::Fail;
 
 #[test]
 fn refusals(rt: HostRuntime) {
     let alloc = rt.alloc();
     for (entries, cost, want) in [
-        ([3, 5], [2, 3], None),
-        ([3, 0], [2, 3], Some(BadInstance::ZeroColumn { col: 2 })),
-        ([0, 0], [2, 3], Some(BadInstance::ZeroColumn { col: 1 })),
-        ([3, 1_000_000], [2, 3], None),
+        ([3, 5], &[2, 3][..], None),
+        ([3, 5], &[2, 3, 0, 0], None),
+        ([3, 0], &[2, 3], Some(BadInstance::ZeroColumn { col: 2 })),
+        ([0, 0], &[2, 3], Some(BadInstance::ZeroColumn { col: 1 })),
+        ([3, 1_000_000], &[2, 3], None),
         (
             [3, 1_000_001],
-            [2, 3],
+            &[2, 3],
             Some(BadInstance::Entry { row: 1, col: 2 }),
         ),
-        ([3, 5], [2, -1_000_000_000_000], None),
+        ([3, 5], &[2, -1_000_000_000_000], None),
         (
             [3, 5],
-            [2, 1_000_000_000_001],
-            Some(BadInstance::Cost { col: 2 }),
+            &[2, 1_000_000_000_001],
+            Some(BadInstance::Cost { row: 1, col: 2 }),
+        ),
+        (
+            [3, 5],
+            &[2, 3, 4, 5, -1_000_000_000_001, 6],
+            Some(BadInstance::Cost { row: 3, col: 1 }),
         ),
         (
             [0, 5],
-            [2, 1_000_000_000_001],
+            &[2, 1_000_000_000_001],
             Some(BadInstance::ZeroColumn { col: 1 }),
         ),
     ] {
         assert!(rt;
-            Instance::new(alloc, 1, 2, &entries, &cost).err() == want,
+            Instance::new(alloc, 1, 2, &entries, cost).err() == want,
             "{entries:?} {cost:?}"
         );
     }
     assert!(rt; Instance::new(alloc, 0, 2, &[], &[2, 3]).err() == Some(BadInstance::Rows));
     assert!(rt; Instance::new(alloc, 1, 0, &[], &[]).err() == Some(BadInstance::Columns));
+    assert!(rt;
+        Instance::from_limited(alloc, 1, 2, &[3, 0], &[2, 3]).err()
+            == Some(BadMatrix::ZeroColumn { col: 2 })
+    );
 }
 
 #[test]
 fn points_of_an_instance(rt: HostRuntime) -> Result<(), Fail> {
     let alloc = rt.alloc();
-    let coins = Instance::new(alloc, 1, 2, &[3, 5], &[2, 3])?;
+    let coins = Instance::from_limited(alloc, 1, 2, &[3, 5], &[2, 3])?;
     assert!(rt; coins.rows() == 1 && coins.columns() == 2);
+    assert!(rt; coins.sums() == [3, 5].as_slice());
     assert_eq!(rt; coins.entry(1, 2), 5);
     let start = coins.start(alloc, &[15])?;
     assert!(rt; start.as_slice() == [0, 0, 15].as_slice());
@@ -63,5 +76,14 @@ fn degree_and_grade(rt: HostRuntime) -> Result<(), Fail> {
     assert_eq!(rt; degree, [10]);
     assert_eq!(rt; coins.grade(&point), 10);
     assert_eq!(rt; coins.grade_wide(&point), 10);
+    Ok(())
+}
+
+#[test]
+fn rows_of_costs(rt: HostRuntime) -> Result<(), Fail> {
+    let alloc = rt.alloc();
+    let coins = Instance::new(alloc, 1, 2, &[3, 5], &[0, 0, 2, 3])?;
+    assert!(rt; coins.costs().row(2) == [2, 3].as_slice());
+    assert!(rt; compare(coins.costs(), &[5, 0, 0], &[0, 3, 0]) == Ordering::Greater);
     Ok(())
 }

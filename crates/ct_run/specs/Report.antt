@@ -5,9 +5,9 @@ use Rattle.std.specs.Fmt.{signed_decimal}
 use Rattle.ct_instance.specs.Instance.{Problem}
 use Rattle.ct_instance.specs.Answer.{Outcome, optimum, infeasible, answer_of}
 use Rattle.ct_input.specs.declared.script.Request.{Request}
-use Rattle.ct_input.specs.declared.script.Request.TheVariants.{Ask, Solve}
 use Rattle.ct_input.specs.declared.script.Phase.{Phase}
 use Rattle.ct_input.specs.declared.script.Script.{Script}
+use Rattle.ct_input.specs.Script.{right_of}
 
 -- LF
 abbrev pub newline : List ℕ
@@ -40,11 +40,6 @@ phases_text number (sessions ∷ phases) =
 -- the whole report of phases, each a list of sessions, each a list of what its requests are answered
 abbrev pub report_text : List (List (List Outcome)) → List ℕ
 report_text phases = codes "report 1" ++ newline ++ phases_text 1 phases ++ codes "end" ++ newline
-
--- the right-hand side of a request
-abbrev pub right_of : Request → List ℕ
-right_of (Ask b) = b
-right_of (Solve b) = b
 
 -- the answers to a session's requests in their order, an ask as a solve
 abbrev pub session_answers : Problem → List Request → List Outcome

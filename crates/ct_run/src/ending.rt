@@ -1,7 +1,7 @@
 //! How a run ends before it writes.
 ghost use Rattle.std.specs.Prelude.{◌≡◌, All, IfOk};
 ghost use Rattle.ct_run.specs.Ending.{usage, bad_instance, bad_sessions, done};
-ghost use Rattle.ct_run.specs.Reading.{IsScript};
+ghost use Rattle.ct_input.specs.Script.{IsScript};
 
 use crate::report::push_report;
 use crate::status::Status;

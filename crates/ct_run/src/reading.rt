@@ -1,16 +1,14 @@
 //! Files, fetched and read.
 ghost use Rattle.std.specs.Prelude.{◌≡◌, ◌≢◌, ◌≤◌, ℕ, List, IfOk};
 ghost use Rattle.ct_input.specs.Files.{instance_file, session_file};
-ghost use Rattle.ct_run.specs.Reading.{IsReadAs, HasCause, IsScript};
+ghost use Rattle.ct_input.specs.Script.{IsScript};
+ghost use Rattle.ct_run.specs.Reading.{IsReadAs, HasCause};
 
+use ct_input::limits::{INSTANCE_FILE_LIMIT, SESSION_FILE_LIMIT};
 use ct_input::{Fault, InputStop, Script, read_instance, read_sessions};
 use ct_instance::Instance;
 use ct_outside::{FetchFault, Shelf};
 use std::alloc::Global;
-
-const INSTANCE_LIMIT: u64 = 1_048_576;
-
-const SESSIONS_LIMIT: u64 = 16_777_216;
 
 /// Why a file gave no value.
 #[derive(Debug, Drop)]
@@ -32,7 +30,7 @@ pub fn instance_at<S: Shelf>(alloc: Global, name: &str, shelf: &mut S) -> Result
     ensures others { (other : List ℕ) → other ≢ name.now → S.faults shelf.new other ≡ S.faults shelf.old other }
 {
     let mut bytes = Vec::new(alloc);
-    match shelf.fetch(alloc, name, INSTANCE_LIMIT, &mut bytes) {
+    match shelf.fetch(alloc, name, INSTANCE_FILE_LIMIT as u64, &mut bytes) {
         Ok(()) => {}
         Err(FetchFault::TooLong) => return Err(Unread::Fault(Fault::TooLong)),
         Err(FetchFault::Failed) => return Err(Unread::Failed),
@@ -60,13 +58,13 @@ pub fn script_at<S: Shelf>(
     ensures others { (other : List ℕ) → other ≢ name.now → S.faults shelf.new other ≡ S.faults shelf.old other }
 {
     let mut bytes = Vec::new(alloc);
-    match shelf.fetch(alloc, name, SESSIONS_LIMIT, &mut bytes) {
+    match shelf.fetch(alloc, name, SESSION_FILE_LIMIT as u64, &mut bytes) {
         Ok(()) => {}
         Err(FetchFault::TooLong) => return Err(Unread::Fault(Fault::TooLong)),
         Err(FetchFault::Failed) => return Err(Unread::Failed),
         Err(FetchFault::Memory) => return Err(Unread::Memory),
     }
-    match read_sessions(alloc, inst, &bytes) {
+    match read_sessions(alloc, inst.rows(), &bytes) {
         Ok(script) => Ok(script),
         Err(InputStop::Fault(fault)) => Err(Unread::Fault(fault)),
         Err(InputStop::Memory) => Err(Unread::Memory),

@@ -1,13 +1,15 @@
-// The report text, into one buffer.
+//! The report text, into one buffer.
 ghost use Rattle.std.specs.Prelude.{◌≡◌, ◌+◌, ◌<◌, ◌≤◌, ◌++◌, ◌∷◌, [], length, take, decimal, map, All, OnOk};
+ghost use Rattle.std.specs.Fmt.{signed_decimal};
+ghost use Rattle.ct_vectors.specs.declared.limits.TheConstants.{ROW_LIMIT, RIGHT_LIMIT, JOB_GRADE_LIMIT};
 ghost use Rattle.ct_order.specs.Order.{cost_of};
 ghost use Rattle.ct_instance.specs.Answer.{optimum, infeasible, answer_of};
-ghost use Rattle.ct_run.specs.Reading.{IsRequest, IsPhase, IsScript};
-ghost use Rattle.ct_run.specs.Report.{newline, spaced, line_text, lines_text, sessions_text, phases_text, report_text, right_of, session_answers, phase_answers, answers_of};
+ghost use Rattle.ct_input.specs.Script.{IsRequest, IsPhase, IsScript};
+ghost use Rattle.ct_run.specs.Report.{newline, spaced, line_text, lines_text, sessions_text, phases_text, report_text, session_answers, phase_answers, answers_of};
 
 use ct_input::{Phase, Request, Script};
 use ct_instance::Instance;
-use ct_order::{Costs, art_total, cost};
+use ct_order::{Costs, art_total, costs_of};
 use ct_point::Seq;
 use ct_slow::least_by_listing;
 use ct_text::{push_natural, push_signed};
@@ -24,17 +26,28 @@ fn push_numbers(out: &mut Vec<u8>, numbers: &[u64]) -> Result<(), AllocError>
     Ok(())
 }
 
+// Each cost with a space before it.
+fn push_costs(out: &mut Vec<u8>, costs: &[i128]) -> Result<(), AllocError>
+    ensures { OnOk result (out.new.items ≡ out.old.items ++ spaced signed_decimal costs.now) }
+{
+    for cost in costs {
+        out.extend_from_slice(b" ")?;
+        push_signed(out, *cost)?;
+    }
+    Ok(())
+}
+
 // The line of an optimum, from a point with no artificials.
 fn push_optimum(out: &mut Vec<u8>, costs: &Costs, point: &[u64]) -> Result<(), AllocError>
-    requires some_artificial { length costs.now < length point.now }
-    requires most_artificials { length point.now ≤ length costs.now + 16 }
-    requires limit { All (λ x. x ≤ 32000000000000) point.now }
-    ensures { OnOk result (out.new.items ≡ out.old.items ++ line_text (optimum (take (length costs.now) point.now) (cost_of costs.now point.now ∷ []))) }
+    requires some_artificial { costs.now.columns < length point.now }
+    requires most_artificials { length point.now ≤ costs.now.columns + ROW_LIMIT }
+    requires limit { All (λ x. x ≤ JOB_GRADE_LIMIT) point.now }
+    ensures { OnOk result (out.new.items ≡ out.old.items ++ line_text (optimum (take costs.now.columns point.now) (map (λ row. cost_of row point.now) costs.now.rows))) }
 {
-    out.extend_from_slice(b"optimum ")?;
-    push_signed(out, cost(costs, point))?;
+    out.extend_from_slice(b"optimum")?;
+    push_costs(out, costs_of(costs, point).as_slice())?;
     out.extend_from_slice(b" at")?;
-    push_numbers(out, &point[..costs.as_slice().len()])?;
+    push_numbers(out, &point[..costs.columns()])?;
     out.extend_from_slice(b"\n")?;
     Ok(())
 }
@@ -64,7 +77,7 @@ fn push_answer(
     b: &[u64],
 ) -> Result<(), AllocError>
     requires right { length b.now ≡ inst.now.rows }
-    requires limit { All (λ x. x ≤ 1000000000000) b.now }
+    requires limit { All (λ x. x ≤ RIGHT_LIMIT) b.now }
     ensures { OnOk result (out.new.items ≡ out.old.items ++ line_text (answer_of inst.now b.now)) }
 {
     let least = least_by_listing(alloc, inst, b)?;
@@ -79,15 +92,6 @@ fn push_answer(
     Ok(())
 }
 
-fn right_side(request: &Request) -> &[u64]
-    ensures { result.now ≡ right_of request.now }
-{
-    match request {
-        Request::Ask(b) => b.as_slice(),
-        Request::Solve(b) => b.as_slice(),
-    }
-}
-
 // The lines of a session.
 fn push_lines(
     alloc: Global,
@@ -99,7 +103,7 @@ fn push_lines(
     ensures { OnOk result (out.new.items ≡ out.old.items ++ lines_text (session_answers inst.now requests.now)) }
 {
     for request in requests {
-        push_answer(alloc, out, inst, right_side(request))?;
+        push_answer(alloc, out, inst, request.right())?;
     }
     Ok(())
 }

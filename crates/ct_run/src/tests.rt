@@ -1,3 +1,4 @@
+//! Runs of the worked examples, and faults of reading and writing.
 use super::*;
 use ct_outside::{MemShelf, MemSink};
 use std::alloc::{AllocError, Global};
@@ -18,6 +19,10 @@ const GAIN: &str = "instance 1 rows 1 columns 2 matrix 1 1 cost -1 0 end";
 const ROWS: &str = "instance 1 rows 2 columns 3 matrix 1 1 0 0 1 1 cost 1 1 1 end";
 
 const EMPTY_ROW: &str = "instance 1 rows 2 columns 1 matrix 1 0 cost 1 end";
+
+const TIED: &str = "instance 1 rows 1 columns 2 matrix 1 1 cost 1 1 cost 0 1 end";
+
+const COINS_BELOW: &str = "instance 1 rows 1 columns 2 matrix 3 5 cost 0 0 cost 2 3 end";
 
 const ONE: &str = "sessions 1 phase 0 session solve 15 end";
 
@@ -79,6 +84,18 @@ fn answers_and_faults_of_texts(rt: HostRuntime) -> Result<(), Fail> {
             "sessions 1 phase 0 session solve 3 end",
             0,
             "report 1\nphase 1\nsession 1\noptimum 3 at 0 3\nend\n",
+        ),
+        (
+            TIED,
+            "sessions 1 phase 0 session solve 3 end",
+            0,
+            "report 1\nphase 1\nsession 1\noptimum 3 0 at 3 0\nend\n",
+        ),
+        (
+            COINS_BELOW,
+            "sessions 1 phase 0 session solve 15 end",
+            0,
+            "report 1\nphase 1\nsession 1\noptimum 0 9 at 0 3\nend\n",
         ),
         (
             GAIN,

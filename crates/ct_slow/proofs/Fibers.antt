@@ -9,6 +9,7 @@ use Rattle.ct_vectors.specs.Vectors.{total, add, subtract, scale, up_to, Divides
 use Rattle.ct_vectors.proofs.Sums.{scale_of_sum, scale-one, scale-zero, length-scale, add_comm, subtract-zeros}
 use Rattle.ct_vectors.proofs.Divisors.{Divides-from_test, test_from_Divides, Divides-trans, Divides-scale, Divides-both, Divides-at, Divides-from_at, add-subtract, zeros-divide, times-le-total}
 use Rattle.ct_point.proofs.Places.{get_or-scale, get_or-subtract}
+use Rattle.ct_vectors.specs.declared.limits.TheConstants.{JOB_GRADE_LIMIT}
 use Rattle.ct_instance.proofs.Grades.{get_or-le-total}
 use Rattle.ct_instance.specs.Instance.{Problem, IsPoint}
 use Rattle.ct_instance.specs.Fiber.{fiber_of, is_lower}
@@ -111,8 +112,8 @@ pub record IsListing (i : Problem) (j : ℕ) (front rest column first : List ℕ
   pub remains : left ≡ subtract rest (scale x column)
   pub point_width : IsPoint i point
   pub best_width : IsPoint i best
-  pub point_limit : All (λ y. y ≤ 32000000000000) point
-  pub best_limit : All (λ y. y ≤ 32000000000000) best
+  pub point_limit : All (λ y. y ≤ JOB_GRADE_LIMIT) point
+  pub best_limit : All (λ y. y ≤ JOB_GRADE_LIMIT) best
 
 -- where no column is left, the one point is the front with what is left as its artificials
 pub last_point : (i : Problem) (j : ℕ) (front rest best : List ℕ) → length i.columns ≤ j →
@@ -189,7 +190,7 @@ pub whole_fiber : (i : Problem) (b point first : List ℕ) →
 whole_fiber i b point first = ap (best_of (is_lower i) first) (map-id (fiber_of i.columns b))
 
 pub listing_starts : (i : Problem) (j : ℕ) (point rest column best left : List ℕ) → left ≡ rest → IsPoint i point → IsPoint i best →
-    All (λ y. y ≤ 32000000000000) point → All (λ y. y ≤ 32000000000000) best → IsListing i j point rest column best 0 point left best
+    All (λ y. y ≤ JOB_GRADE_LIMIT) point → All (λ y. y ≤ JOB_GRADE_LIMIT) best → IsListing i j point rest column best 0 point left best
 listing_starts i j point rest column best left e pw bw pl bl = record {
   lowest = ap (best_of (is_lower i) best) (sym (seen_none (take j point) column (drop (j + 1) i.columns) rest));
   same_front = refl;

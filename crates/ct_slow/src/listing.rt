@@ -1,6 +1,9 @@
+//! The listing of a fiber.
+
 ghost use Rattle.std.specs.Prelude.{◌≡◌, ◌+◌, ◌≤◌, ◌<◌, ◌++◌, length, take, drop, map, if◌then◌else◌, All, IfOk, OnOk};
 ghost use Rattle.std.specs.List.{best_of};
 ghost use Rattle.ct_vectors.specs.Vectors.{total};
+ghost use Rattle.ct_vectors.specs.declared.limits.TheConstants.{RIGHT_LIMIT, GRADE_LIMIT, JOB_GRADE_LIMIT};
 ghost use Rattle.ct_instance.specs.Instance.{IsPoint, column_count};
 ghost use Rattle.ct_instance.specs.Fiber.{fiber_of, least_of, is_lower};
 
@@ -15,7 +18,7 @@ use std::cmp::Ordering;
 /// column fits into b.
 pub fn least_by_listing(alloc: Global, inst: &Instance, b: &[u64]) -> Result<Point, AllocError>
     requires right { length b.now ≡ inst.now.rows }
-    requires limit { All (λ x. x ≤ 1000000000000) b.now }
+    requires limit { All (λ x. x ≤ RIGHT_LIMIT) b.now }
     ensures { IfOk result (λ p. p ≡ least_of inst.now b.now) }
 {
     let _rows = inst.rows();
@@ -40,15 +43,15 @@ fn descend(
     requires point_width { IsPoint inst.now point.old }
     requires best_width { IsPoint inst.now best.old }
     requires rest_width { length rest.now ≡ inst.now.rows }
-    requires rest_limit { total rest.now ≤ 16000000000000 }
-    requires point_limit { All (λ x. x ≤ 32000000000000) point.old }
-    requires best_limit { All (λ x. x ≤ 32000000000000) best.old }
+    requires rest_limit { total rest.now ≤ GRADE_LIMIT }
+    requires point_limit { All (λ x. x ≤ JOB_GRADE_LIMIT) point.old }
+    requires best_limit { All (λ x. x ≤ JOB_GRADE_LIMIT) best.old }
     ensures lowest { OnOk result (best.new ≡ best_of (is_lower inst.now) best.old (map (λ q. take j point.old ++ q) (fiber_of (drop j inst.now.columns) rest.now))) }
     ensures front { OnOk result (take j point.new ≡ take j point.old) }
     ensures point_stays { IsPoint inst.now point.new }
     ensures best_stays { IsPoint inst.now best.new }
-    ensures point_within { All (λ x. x ≤ 32000000000000) point.new }
-    ensures best_within { All (λ x. x ≤ 32000000000000) best.new }
+    ensures point_within { All (λ x. x ≤ JOB_GRADE_LIMIT) point.new }
+    ensures best_within { All (λ x. x ≤ JOB_GRADE_LIMIT) best.new }
 {
     if j == inst.columns() {
         end_with(inst, point, rest, best);
@@ -72,13 +75,13 @@ fn end_with(inst: &Instance, point: &mut Point, rest: &Point, best: &mut Point)
     requires point_width { IsPoint inst.now point.old }
     requires best_width { IsPoint inst.now best.old }
     requires rest_width { length rest.now ≡ inst.now.rows }
-    requires rest_limit { total rest.now ≤ 16000000000000 }
-    requires point_limit { All (λ x. x ≤ 32000000000000) point.old }
-    requires best_limit { All (λ x. x ≤ 32000000000000) best.old }
+    requires rest_limit { total rest.now ≤ GRADE_LIMIT }
+    requires point_limit { All (λ x. x ≤ JOB_GRADE_LIMIT) point.old }
+    requires best_limit { All (λ x. x ≤ JOB_GRADE_LIMIT) best.old }
     ensures ended { point.new ≡ take (column_count inst.now) point.old ++ rest.now }
     ensures lowest { best.new ≡ (if is_lower inst.now point.new best.old then point.new else best.old) }
-    ensures point_within { All (λ x. x ≤ 32000000000000) point.new }
-    ensures best_within { All (λ x. x ≤ 32000000000000) best.new }
+    ensures point_within { All (λ x. x ≤ JOB_GRADE_LIMIT) point.new }
+    ensures best_within { All (λ x. x ≤ JOB_GRADE_LIMIT) best.new }
 {
     point.write_end(rest.as_slice());
     keep_lower(inst, point, best);
@@ -88,10 +91,10 @@ fn end_with(inst: &Instance, point: &mut Point, rest: &Point, best: &mut Point)
 fn keep_lower(inst: &Instance, point: &Point, best: &mut Point)
     requires point_width { IsPoint inst.now point.now }
     requires best_width { IsPoint inst.now best.old }
-    requires point_limit { All (λ x. x ≤ 32000000000000) point.now }
-    requires best_limit { All (λ x. x ≤ 32000000000000) best.old }
+    requires point_limit { All (λ x. x ≤ JOB_GRADE_LIMIT) point.now }
+    requires best_limit { All (λ x. x ≤ JOB_GRADE_LIMIT) best.old }
     ensures lowest { best.new ≡ (if is_lower inst.now point.now best.old then point.now else best.old) }
-    ensures best_within { All (λ x. x ≤ 32000000000000) best.new }
+    ensures best_within { All (λ x. x ≤ JOB_GRADE_LIMIT) best.new }
 {
     match compare(inst.costs(), point.as_slice(), best.as_slice()) {
         Ordering::Less => best.copy_from(point),

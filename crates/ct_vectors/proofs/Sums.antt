@@ -1,5 +1,6 @@
 -- Laws of sum, difference and multiple. A law asks for equal lengths only where a coordinate could get lost.
-use Rattle.std.proofs.Common.{ℕ, ◌+◌, ◌*◌, ◌≤◌, ◌<◌, ◌≡◌, max, List, [], ◌∷◌, ◌++◌, length, sum, refl, sym, ap, ap₂, ◌∙◌, arith, zero, suc}
+use Rattle.std.proofs.Common.{ℕ, ◌+◌, ◌*◌, ◌≤◌, ◌<◌, ◌≡◌, max, All, List, [], ◌∷◌, ◌++◌, length, sum, refl, sym, ap, ap₂, ◌∙◌, arith, zero, suc}
+use Rattle.std.proofs.lemmas.List.Elements.{All-tail}
 use Rattle.std.proofs.lemmas.List.Sums.{sum_by-cons}
 use Rattle.ct_vectors.specs.Vectors.{total, add, subtract, scale, zeros, unit}
 
@@ -166,6 +167,17 @@ total-append (x ∷ p) q = omega (arith, total-append p q)
 pub zeros_from_total : (p : List ℕ) → total p ≡ 0 → p ≡ zeros (length p)
 zeros_from_total [] h = refl
 zeros_from_total (x ∷ p) h = cons_same (omega arith) (zeros_from_total p (omega arith))
+
+-- the total of numbers that have a limit
+pub total-limit : (k : ℕ) (p : List ℕ) → All (λ x. x ≤ k) p → total p ≤ length p * k
+total-limit k [] h = omega arith
+total-limit k (x ∷ p) h =
+    let first : x ≤ k = h 0 0 (omega arith) in
+    let rest : total p ≤ length p * k = total-limit k p (All-tail (λ x. x ≤ k) x p h) in
+    limit_more x (total p) (length p) k first rest
+  where
+    limit_more : (x t n k : ℕ) → x ≤ k → t ≤ n * k → x + t ≤ suc n * k
+    limit_more x t n k h l = omega arith
 
 -- std's word for the total
 pub total_is_sum : (p : List ℕ) → total p ≡ sum p

@@ -4,6 +4,7 @@ pub mod Runs
 pub mod Ends
 pub mod Pairs
 pub mod Loops
+pub mod Followed
 pub mod Openings
 pub mod MoveFacts
 pub mod SlabFacts

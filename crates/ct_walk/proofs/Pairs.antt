@@ -6,7 +6,7 @@ use Rattle.std.proofs.lemmas.Bool.{cases_lt, cases_eq}
 use Rattle.ct_vectors.specs.Vectors.{total, add, subtract, unit, zeros, lcm, Disjoint}
 use Rattle.ct_vectors.proofs.Sums.{length-add_same, add-zeros, add_right_cancel, total-add, total-unit, total-zeros, length-zeros, length-unit, zeros_from_total}
 use Rattle.ct_vectors.proofs.Places.{add-append, take-add}
-use Rattle.ct_vectors.proofs.Divisors.{Divides-add, Divides-trans, dec_disjoint}
+use Rattle.ct_vectors.proofs.Divisors.{dec_disjoint}
 use Rattle.ct_instance.specs.declared.jobs.Job.{Job}
 use Rattle.ct_instance.specs.declared.jobs.Job.TheVariants.{Generator, Pair}
 use Rattle.ct_instance.specs.Instance.{Problem, IsInstance, IsPoint, IsRight, column_count, degree_of, start_of, unit_of}
@@ -19,7 +19,7 @@ use Rattle.ct_instance.proofs.Fiber.{rank_of, start_in_fiber, fiber_is_right}
 use Rattle.ct_instance.proofs.TestHeads.{positive_coordinate}
 use Rattle.ct_walk.specs.Laws.{GoesDown, IsWithin, AreJoined, JobsAreJoined, HasOneNormalPoint}
 use Rattle.ct_walk.proofs.Steps.{move_at_within, dividing_gives}
-use Rattle.ct_walk.proofs.WalkFacts.{test_list_moves, test_list_joins}
+use Rattle.ct_walk.proofs.WalkFacts.{test_list_moves, parts_within, test_list_joins}
 use Rattle.ct_walk.proofs.Runs.{IsSwap, Runs, halt, swap, Meet, meet_flip, meet_itself, swap_down, swap_rank, swap_from_divides, run_cases, run_on, run_down, run_from_normal, meet_of_sum, leads_run, IsPeak, pair_end, pair_end_second, peak, coprime_meet}
 use Rattle.ct_walk.proofs.Ends.{the_move_is, the_column_is, column_is_right, unit_in_fiber, ends_in_fiber}
 
@@ -231,11 +231,8 @@ module _ (i : Problem) (s : IsInstance i) (ms : List Binomial) (moves : AreMoves
 
 pub graded_critical_pairs : (i : Problem) → IsInstance i → (ms : List Binomial) → AreMoves i ms → (g : ℕ) (top : List ℕ) → JobsAreJoined i ms g top →
     (b : List ℕ) → IsRight i b → IsWithin g top b → HasOneNormalPoint i ms b
-graded_critical_pairs i s ms moves g top joins b right w = one_normal_point i s ms moves (IsWithin g top) parts meets b right w
+graded_critical_pairs i s ms moves g top joins b right w = one_normal_point i s ms moves (IsWithin g top) (parts_within g top) meets b right w
   where
-    parts : (a b : List ℕ) → IsWithin g top (add a b) → IsWithin g top b
-    parts a b u = record { grade = omega (arith, total-add a b, u.grade); bound = Divides-trans b (add a b) top (Divides-add a b) u.bound }
-
     meets : (j : Job) → IsJob i ms j → IsWithin g top (job_degree_of i ms j) → (IsCoprime ms j → ⊥) → Meet i ms (first_end_of i ms j) (second_end_of i ms j)
     meets j k u n =
         let joined : AreJoined ms (first_end_of i ms j) (second_end_of i ms j) = joins j k u n in

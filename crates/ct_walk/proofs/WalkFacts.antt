@@ -1,38 +1,41 @@
 -- Walks: each point has one, it is a run of free steps, and a walk by a test list that covers the point's grade ends at
 -- the least point and stays the same by each later test list.
-use Rattle.std.proofs.Common.{ℕ, ◌≤◌, ◌<◌, ◌≡◌, ◌⊎◌, ◌↔◌, inl, inr, ⊎_elim, Option, Some, None, List, [], ◌∷◌, ◌++◌, get_or, Contains, refl, sym, subst, ap, ap₂, ◌∙◌, arith, zero, suc}
+use Rattle.std.proofs.Common.{ℕ, ◌≤◌, ◌<◌, ◌≡◌, ◌⊎◌, ◌↔◌, inl, inr, ⊎_elim, Option, Some, None, List, [], ◌∷◌, ◌++◌, get_or, map, Contains, refl, sym, subst, ap, ap₂, ◌∙◌, arith, zero, suc}
 use Rattle.std.proofs.lemmas.List.Elements.{Contains-append_right}
-use Rattle.ct_vectors.specs.Vectors.{total, scale, Divides, IsTimes}
-use Rattle.ct_vectors.proofs.Sums.{scale-one}
+use Rattle.ct_vectors.specs.Vectors.{total, add, subtract, Divides, IsTimes}
+use Rattle.ct_vectors.proofs.Sums.{scale-one, total-add}
+use Rattle.ct_vectors.proofs.Divisors.{Divides-add, Divides-trans, add-subtract}
 use Rattle.ct_instance.specs.Instance.{Problem, IsInstance, IsPoint, degree_of, grade_of}
 use Rattle.ct_instance.specs.Fiber.{least_of, IsInFiber, IsLeast}
-use Rattle.ct_instance.specs.TestSet.{Binomial, IsTestHead, IsTestMove, IsTestList, ComesBefore}
+use Rattle.ct_instance.specs.TestSet.{Binomial, IsImprovable, IsTestHead, IsTestMove, IsTestList, ComesBefore}
 use Rattle.ct_instance.specs.Walk.{move_at, first_dividing, IsNormal, moved, IsMove, AreMoves, FreeStep, Leads, stay, step, IsStep, IsWalk, ends, walks, IsWalkEnd}
-use Rattle.ct_instance.proofs.Lists.{Contains-cons_cases, Contains-nil}
-use Rattle.ct_instance.proofs.Degree.{grade-divides}
+use Rattle.ct_instance.proofs.Lists.{Contains-cons_cases, Contains-nil, map_gives}
+use Rattle.ct_instance.proofs.Degree.{degree-add, grade-divides}
 use Rattle.ct_instance.proofs.Fiber.{is_least_of, in_own_fiber, rank_of, rank_falls, least_or_improvable, least_not_improvable}
 use Rattle.ct_instance.proofs.TestHeads.{has_test_head}
 use Rattle.ct_instance.proofs.Ordered.{InOrder, InOrder-from_pairs}
 use Rattle.ct_instance.proofs.TestList.{test_lists, test_lists_grow, move_of_head, move_is_sound, before_itself}
-use Rattle.ct_walk.specs.Laws.{AreJoined}
+use Rattle.ct_walk.specs.Laws.{IsWithin, AreJoined}
 use Rattle.ct_walk.proofs.Steps.{dividing_gives, normal_none, normal_from_none, dividing-append, move_at-append, move_is, times_exist, times_one, head_positive, free_step_down, leads_down}
 
 -- ---- the walk of a point
 
-pub step_is_free : (ms : List Binomial) (p q : List ℕ) (number times : ℕ) → IsStep ms p number times q → FreeStep ms p q
-step_is_free ms p q number times s =
+pub step_some : (ms : List Binomial) (p q : List ℕ) (number times : ℕ) → IsStep ms p number times q → 1 ≤ times
+step_some ms p q number times s =
     let d = dividing_gives ms p number s.first in
     let same : d.0 ≡ s.move = let e : Some d.0 ≡ Some s.move = sym d.1 ∙ s.at in cc in
-    let once : Divides (scale 1 s.move.head) p = subst (λ (h : List ℕ). Divides h p) (ap (λ (m : Binomial). m.head) same ∙ sym (scale-one s.move.head)) d.2 in
-    record {
-      number = number;
-      move = s.move;
-      times = times;
-      at = s.at;
-      some = s.count.most 1 once;
-      fits = s.count.fits;
-      gives = s.gives;
-    }
+    s.count.most 1 (subst (λ (h : List ℕ). Divides h p) (ap (λ (m : Binomial). m.head) same ∙ sym (scale-one s.move.head)) d.2)
+
+pub step_is_free : (ms : List Binomial) (p q : List ℕ) (number times : ℕ) → IsStep ms p number times q → FreeStep ms p q
+step_is_free ms p q number times s = record {
+  number = number;
+  move = s.move;
+  times = times;
+  at = s.at;
+  some = step_some ms p q number times s;
+  fits = s.count.fits;
+  gives = s.gives;
+}
 
 pub walk_leads : (ms : List Binomial) (p q : List ℕ) (steps : List (ℕ × ℕ)) → IsWalk ms p steps q → Leads ms p q
 walk_leads ms p q steps (ends s n) = stay p
@@ -142,14 +145,14 @@ walk_by_front i ms ns a b none p r steps f (walks x q y number times more s w) =
     walks p q r number times more t
     (walk_by_front i ms ns a b none q r more (record { point = (down.member).point; degree = (down.member).degree ∙ f.degree }) w)
 
-front_before : (R : Binomial → Binomial → Type 0) (ms more : List Binomial) → InOrder R (ms ++ more) → (m n : Binomial) → Contains ms m → Contains more n → R m n
+pub front_before : (R : Binomial → Binomial → Type 0) (ms more : List Binomial) → InOrder R (ms ++ more) → (m n : Binomial) → Contains ms m → Contains more n → R m n
 front_before R [] more o m n c d = absurd (Contains-nil m c)
 front_before R (x ∷ ms) more o m n c d =
     ⊎_elim (λ e. subst (λ (y : Binomial). R y n) e (o.0 n (Contains-append_right ms more n d))) (λ c. front_before R ms more o.1 m n c d)
     (Contains-cons_cases x ms m c)
 
 -- the further heads of a later test list divide no point of a grade that the earlier one covers
-later_heads : (i : Problem) → IsInstance i → (g h : ℕ) (ms more : List Binomial) → IsTestList i g ms → IsTestList i h (ms ++ more) →
+pub later_heads : (i : Problem) → IsInstance i → (g h : ℕ) (ms more : List Binomial) → IsTestList i g ms → IsTestList i h (ms ++ more) →
     (p : List ℕ) → IsPoint i p → grade_of i.columns p ≤ g → IsNormal more p
 later_heads i s g h ms more t u p e l = normal_from_none more p none
   where
@@ -178,29 +181,59 @@ walks_stay i s g h l ms ns t u p e k steps q =
         none : (r : List ℕ) → IsInFiber i (degree_of i.columns p) r → IsNormal more r
         none r f = later_heads i s g h ms more t v r f.point (let same : grade_of i.columns r ≡ grade_of i.columns p = ap total f.degree in omega arith)
 
+-- ---- walks within a bound
+
+-- A bound on degrees that passes to parts. Where each test head within it is a head of the list, points within it walk
+-- to the least point of their fiber.
+module _ (i : Problem) (s : IsInstance i) (ms : List Binomial) (moves : AreMoves i ms) (Within : List ℕ → Type 0)
+    (parts : (a b : List ℕ) → Within (add a b) → Within b)
+    (heads : (p : List ℕ) → IsTestHead i p → Within (degree_of i.columns p) → Contains (map (λ m. m.head) ms) p) where
+  pub walk_least_within : (p q : List ℕ) → IsPoint i p → Within (degree_of i.columns p) → IsWalkEnd ms p q → IsLeast i (degree_of i.columns p) q
+  walk_least_within p q e within w =
+      let down = leads_down i ms moves p q e (walk_leads ms p q w.steps w.walk) in
+      subst (λ (b : List ℕ). IsLeast i b q) (down.member).degree
+      (⊎_elim (λ least. least) (λ m. absurd (still (down.member).point (subst Within (sym (down.member).degree) within) m)) (least_or_improvable i s q (down.member).point))
+    where
+      still : IsPoint i q → Within (degree_of i.columns q) → IsImprovable i q → ⊥
+      still f l m =
+          let r = has_test_head i s q f m in
+          let rest : List ℕ = subtract q r.0 in
+          let whole : add (degree_of i.columns rest) (degree_of i.columns r.0) ≡ degree_of i.columns q =
+          sym (degree-add i.columns rest r.0) ∙ ap (degree_of i.columns) (add-subtract q r.0 (omega (arith, (r.1).point, f)) r.2) in
+          let n = map_gives (λ m. m.head) ms r.0 (heads r.0 r.1 (parts (degree_of i.columns rest) (degree_of i.columns r.0) (subst Within (sym whole) l))) in
+          normal_none ms q (walk_normal ms p q w.steps w.walk) n.0 n.1 (subst (λ (h : List ℕ). Divides h q) (sym n.2) r.2)
+
+  -- so free steps lead there
+  pub leads_to_least_within : (b p : List ℕ) → IsInFiber i b p → Within b → Leads ms p (least_of i b)
+  leads_to_least_within b p f within =
+      let w = walk_exists i s ms moves p f.point in
+      let least : IsLeast i b w.1 =
+      subst (λ (d : List ℕ). IsLeast i d w.1) f.degree (walk_least_within p w.1 f.point (subst Within (sym f.degree) within) (record { steps = w.0; walk = w.2 })) in
+      subst (Leads ms p) (is_least_of i s b w.1 least) (walk_leads ms p w.1 w.0 w.2)
+
+  -- and two points of one degree are led to one point
+  pub joins_within : (b p q : List ℕ) → IsInFiber i b p → IsInFiber i b q → Within b → AreJoined ms p q
+  joins_within b p q f k within = record { point = least_of i b; first = leads_to_least_within b p f within; second = leads_to_least_within b q k within }
+
+-- ---- the same for a test list, which has each test head up to its grade
+
+abbrev pub UpTo : ℕ → List ℕ → Type 0
+UpTo g b = total b ≤ g
+
+pub parts_up_to : (g : ℕ) (a b : List ℕ) → UpTo g (add a b) → UpTo g b
+parts_up_to g a b l = omega (arith, total-add a b)
+
+pub parts_within : (g : ℕ) (top a b : List ℕ) → IsWithin g top (add a b) → IsWithin g top b
+parts_within g top a b u = record { grade = omega (arith, total-add a b, u.grade); bound = Divides-trans b (add a b) top (Divides-add a b) u.bound }
+
 pub walk_least : (i : Problem) → IsInstance i → (g : ℕ) (ms : List Binomial) → IsTestList i g ms → (p q : List ℕ) → IsPoint i p → grade_of i.columns p ≤ g →
     IsWalkEnd ms p q → IsLeast i (degree_of i.columns p) q
-walk_least i s g ms t p q e l w =
-    let down = leads_down i ms (test_list_moves i g ms t) p q e (walk_leads ms p q w.steps w.walk) in
-    let same : grade_of i.columns q ≡ grade_of i.columns p = ap total (down.member).degree in
-    subst (λ (b : List ℕ). IsLeast i b q) (down.member).degree
-    (⊎_elim (λ least. least)
-    (λ m.
-    let r = has_test_head i s q (down.member).point m in
-    let small : grade_of i.columns r.0 ≤ g = omega (arith, grade-divides i.columns r.0 q (omega (arith, (r.1).point, (down.member).point)) r.2) in
-    let n = move_of_head i g ms t r.0 r.1 small in
-    absurd (normal_none ms q (walk_normal ms p q w.steps w.walk) n.0 n.1 (subst (λ (h : List ℕ). Divides h q) (sym n.2) r.2)))
-    (least_or_improvable i s q (down.member).point))
+walk_least i s g ms t = walk_least_within i s ms (test_list_moves i g ms t) (UpTo g) (parts_up_to g) t.complete
 
 -- a point that a test list covers is led to the least point of its fiber
 pub leads_to_least : (i : Problem) → IsInstance i → (g : ℕ) (ms : List Binomial) → IsTestList i g ms → (b p : List ℕ) → IsInFiber i b p → total b ≤ g → Leads ms p (least_of i b)
-leads_to_least i s g ms t b p f l =
-    let small : grade_of i.columns p ≤ g = let e : grade_of i.columns p ≡ total b = ap total f.degree in omega arith in
-    let w = walk_exists i s ms (test_list_moves i g ms t) p f.point in
-    let least : IsLeast i b w.1 =
-    subst (λ (d : List ℕ). IsLeast i d w.1) f.degree (walk_least i s g ms t p w.1 f.point small (record { steps = w.0; walk = w.2 })) in
-    subst (Leads ms p) (is_least_of i s b w.1 least) (walk_leads ms p w.1 w.0 w.2)
+leads_to_least i s g ms t = leads_to_least_within i s ms (test_list_moves i g ms t) (UpTo g) (parts_up_to g) t.complete
 
 -- so two points of one degree are led to one point
 pub test_list_joins : (i : Problem) → IsInstance i → (g : ℕ) (ms : List Binomial) → IsTestList i g ms → (b p q : List ℕ) → IsInFiber i b p → IsInFiber i b q → total b ≤ g → AreJoined ms p q
-test_list_joins i s g ms t b p q f k l = record { point = least_of i b; first = leads_to_least i s g ms t b p f l; second = leads_to_least i s g ms t b q k l }
+test_list_joins i s g ms t = joins_within i s ms (test_list_moves i g ms t) (UpTo g) (parts_up_to g) t.complete

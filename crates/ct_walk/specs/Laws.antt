@@ -1,12 +1,13 @@
 -- What holds of steps and walks by a list of moves. Each statement is the contract of a function in the module `laws`.
-use Rattle.std.specs.Prelude.{ℕ, ◌≤◌, ◌≡◌, ◌⊎◌, List, get_or, ◌↔◌}
+use Rattle.std.specs.Prelude.{ℕ, ◌≤◌, ◌≡◌, ◌⊎◌, List, map, get_or, Contains, ◌↔◌}
 use Rattle.ct_vectors.specs.Vectors.{total, add, Divides}
 use Rattle.ct_instance.specs.declared.jobs.Job.{Job}
 use Rattle.ct_instance.specs.Instance.{Problem, IsInstance, IsPoint, IsRight, degree_of, grade_of}
 use Rattle.ct_instance.specs.Fiber.{IsInFiber, IsBelow, IsLeast}
-use Rattle.ct_instance.specs.TestSet.{Binomial, IsTestList}
+use Rattle.ct_instance.specs.TestSet.{Binomial, IsTestHead, IsTestList}
 use Rattle.ct_instance.specs.Walk.{IsMove, AreMoves, IsNormal, FreeStep, Leads, IsStep, IsWalk, IsWalkEnd}
 use Rattle.ct_instance.specs.Jobs.{IsJob, job_degree_of, first_end_of, second_end_of, IsCoprime}
+use Rattle.ct_walk.specs.Moves.{Follows}
 
 -- ---- steps
 
@@ -35,6 +36,10 @@ abbrev pub LeadsKeepsSums : Type 0
 LeadsKeepsSums =
     (i : Problem) (ms : List Binomial) → AreMoves i ms → (p q r : List ℕ) → IsPoint i p → IsPoint i r → Leads ms p q → Leads ms (add p r) (add q r)
 
+-- a list that has all moves of another leads as it does
+abbrev pub LeadsByMore : Type 0
+LeadsByMore = (ms ns : List Binomial) → ((m : Binomial) → Contains ms m → Contains ns m) → (p q : List ℕ) → Leads ms p q → Leads ns p q
+
 -- no coordinate exceeds the grade on the way
 abbrev pub CoordinatesStayWithin : Type 0
 CoordinatesStayWithin =
@@ -61,6 +66,18 @@ abbrev pub WalkIsOne : Type 0
 WalkIsOne =
     (ms : List Binomial) (p q r : List ℕ) (steps others : List (ℕ × ℕ)) → IsWalk ms p steps q → IsWalk ms p others r → (steps ≡ others) × (q ≡ r)
 
+-- a walk is followed: its steps apply in turn
+abbrev pub WalkFollows : Type 0
+WalkFollows = (ms : List Binomial) (p q : List ℕ) (steps : List (ℕ × ℕ)) → IsWalk ms p steps q → Follows ms p steps q
+
+-- what is followed is a run of free steps, whoever names the steps
+abbrev pub FollowsLeads : Type 0
+FollowsLeads = (ms : List Binomial) (p q : List ℕ) (steps : List (ℕ × ℕ)) → Follows ms p steps q → Leads ms p q
+
+-- a point that no head divides by the test is one that no head divides
+abbrev pub NormalIsUndivided : Type 0
+NormalIsUndivided = (ms : List Binomial) (p : List ℕ) → IsNormal ms p ↔ ((m : Binomial) → Contains ms m → Divides m.head p → ⊥)
+
 -- a point whose grade a test list covers walks by a later test list as by this one
 abbrev pub WalksStay : Type 0
 WalksStay =
@@ -73,6 +90,18 @@ WalkEndsAtLeast =
     (i : Problem) → IsInstance i → (g : ℕ) (ms : List Binomial) → IsTestList i g ms → (p q : List ℕ) → IsPoint i p → grade_of i.columns p ≤ g →
     IsWalkEnd ms p q → IsLeast i (degree_of i.columns p) q
 
+-- a degree is within the grade g and the bound top
+pub record IsWithin (g : ℕ) (top b : List ℕ) : Type 0 where
+  pub grade : total b ≤ g
+  pub bound : Divides b top
+
+-- it is enough that each test head of a degree within the grade and the bound is a head of the list
+abbrev pub WalkEndsAtLeastWithin : Type 0
+WalkEndsAtLeastWithin =
+    (i : Problem) → IsInstance i → (g : ℕ) (top : List ℕ) (ms : List Binomial) → AreMoves i ms →
+    ((p : List ℕ) → IsTestHead i p → IsWithin g top (degree_of i.columns p) → Contains (map (λ m. m.head) ms) p) →
+    (p q : List ℕ) → IsPoint i p → IsWithin g top (degree_of i.columns p) → IsWalkEnd ms p q → IsLeast i (degree_of i.columns p) q
+
 -- the moves of a test list are moves of the instance
 abbrev pub TestListHasMoves : Type 0
 TestListHasMoves = (i : Problem) (g : ℕ) (ms : List Binomial) → IsTestList i g ms → AreMoves i ms
@@ -84,11 +113,6 @@ abbrev pub EndsHaveJobDegree : Type 0
 EndsHaveJobDegree =
     (i : Problem) → IsInstance i → (ms : List Binomial) → AreMoves i ms → (j : Job) → IsJob i ms j →
     IsInFiber i (job_degree_of i ms j) (first_end_of i ms j) × IsInFiber i (job_degree_of i ms j) (second_end_of i ms j)
-
--- a degree is within the grade g and the bound top
-pub record IsWithin (g : ℕ) (top b : List ℕ) : Type 0 where
-  pub grade : total b ≤ g
-  pub bound : Divides b top
 
 -- free steps lead from both p and q to one point
 pub record AreJoined (ms : List Binomial) (p q : List ℕ) : Type 0 where

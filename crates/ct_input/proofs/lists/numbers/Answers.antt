@@ -1,4 +1,5 @@
-use Rattle.std.proofs.Common.{◌≡◌, ◌-◌, ◌+◌, suc, refl, arith}
+use Rattle.std.proofs.Common.{◌≡◌, ◌-◌, ◌+◌, ◌≤◌, suc, refl, arith}
+use Rattle.std.proofs.lemmas.List.Elements.{All-push}
 use Rattle.std.proofs.lemmas.Result.{err_from_is_err_and}
 use Rattle.ct_input.specs.Sheet.{Fails}
 use Rattle.ct_input.specs.Grammar.{read, numbers}
@@ -20,7 +21,7 @@ loop-preserved c =
     let k : c.args.count - c.loop.counter ≡ suc later = omega arith in
     let now = read (numbers (c.args.count - c.loop.counter) c.args.high) c.loop.reader in
     let step : now ≡ with_item c.in_ok-n.n (read (numbers later c.args.high) c.number.new.self) = rw k (numbers_step later c.args.high c.in_ok-n.n c.loop.reader c.number.new.self c.in_ok-n.ensures.gives) in
-    record { reads = rw c.in_ok-push.ensures.items (goes_on c.loop.found.items c.in_ok-n.n now (read (numbers later c.args.high) c.number.new.self) (read (numbers c.args.count c.args.high) c.args.reader.now) step c.loop.invariant.reads); count = omega (arith, c.in_ok-push.ensures.len, c.loop.invariant.count) }
+    record { reads = rw c.in_ok-push.ensures.items (goes_on c.loop.found.items c.in_ok-n.n now (read (numbers later c.args.high) c.number.new.self) (read (numbers c.args.count c.args.high) c.args.reader.now) step c.loop.invariant.reads); count = omega (arith, c.in_ok-push.ensures.len, c.loop.invariant.count); limit = rw c.in_ok-push.ensures.items (All-push (λ m. m ≤ c.args.high) c.loop.found.items c.in_ok-n.n c.loop.invariant.limit c.in_ok-n.ensures.within.1) }
 
 pub returns-clause-gives : goal.returns-clause-gives
 unfolding numbers

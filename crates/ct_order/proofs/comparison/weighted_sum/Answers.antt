@@ -1,3 +1,4 @@
+use Rattle.ct_vectors.specs.declared.limits.TheConstants.{COST_LIMIT, JOB_GRADE_LIMIT}
 use Rattle.std.proofs.Common.{◌≡◌, ℕ, ℤ, pos, ◌+ℤ◌, ◌*ℤ◌, ◌+◌, ◌*◌, ◌≤◌, ◌<◌, length, drop, get_or, sym, ap, ◌∙◌, subst, arith, nat_abs, rules}
 use Rattle.std.proofs.lemmas.Int.{to_z-of_z, fits_signed_from_abs}
 use mir.Val.{SFits, to_z, of_z}
@@ -13,7 +14,7 @@ loop-i-preserved c =
     let x : ℕ = get_or c.args.p.now c.loop-i.i 0 in
     let in-cs : c.loop-i.i < length c.args.costs.now = omega arith in
     let in-p : c.loop-i.i < length c.args.p.now = omega arith in
-    let small : nat_abs cost ≤ 1000000000000 = c.requires.cost_limit c.loop-i.i (pos 0) in-cs in
+    let small : nat_abs cost ≤ COST_LIMIT = c.requires.cost_limit c.loop-i.i (pos 0) in-cs in
     let fits : SFits w128 c.with_product-sum.result = search rules in
     let cost-fits : SFits w64 cost = fits_signed_from_abs w64 cost (omega arith) in
     let same : to_z w128 (of_z w128 c.with_product-sum.result) ≡ c.with_product-sum.result = to_z-of_z w128 c.with_product-sum.result fits in
@@ -22,6 +23,6 @@ loop-i-preserved c =
     record {
       so_far = ap (λ z. z +ℤ cost_of (drop (c.loop-i.i + 1) c.args.costs.now) (drop (c.loop-i.i + 1) c.args.p.now)) value ∙
           cost_more sum c.args.costs.now c.args.p.now c.loop-i.i in-cs in-p ∙ c.loop-i.invariant.so_far;
-      bound = subst (λ z. nat_abs z ≤ (c.loop-i.i + 1) * 32000000000000000000000000) (sym value)
+      bound = subst (λ z. nat_abs z ≤ (c.loop-i.i + 1) * (COST_LIMIT * JOB_GRADE_LIMIT)) (sym value)
           (abs-product sum cost x c.loop-i.i c.loop-i.invariant.bound small (c.requires.limit c.loop-i.i 0 in-p));
     }

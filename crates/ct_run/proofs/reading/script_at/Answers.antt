@@ -3,21 +3,17 @@ use Rattle.ct_outside.specs.Shelf.{Leaves}
 use Rattle.ct_outside.specs.declared.fetch_fault.FetchFault.{FetchFault}
 use Rattle.ct_outside.specs.declared.fetch_fault.FetchFault.TheVariants as failures
 use Rattle.ct_outside.proofs.Callers.{HasFile-from_longer}
+use Rattle.ct_input.specs.declared.limits.TheConstants.{SESSION_FILE_LIMIT}
 use Rattle.ct_input.specs.declared.fault.Fault.TheVariants.{TooLong}
 use Rattle.ct_input.specs.Files.{session_file}
 use Rattle.ct_run.proofs.Files.{HasFile-map}
 use Rattle.ct_run.proofs.TooLong.{sessions-too_long}
-use Rattle.ct_run.proofs.Yields.{session_file-script}
 use Rattle.ct_run.proofs.reading.script_at.Goals as goal
 
 pub returns-in-Err-TooLong-clause-read : goal.returns-in-Err-TooLong-clause-read
 returns-in-Err-TooLong-clause-read g c =
-    let leaves : Leaves (g.S.Shelf.told c.args.shelf.now c.args.name.now) 16777216 c.fetch.new.into.items (Err failures.TooLong) =
-    subst (λ (f : FetchFault). Leaves (g.S.Shelf.told c.args.shelf.now c.args.name.now) 16777216 c.fetch.new.into.items (Err f)) c.in-Err-TooLong.field-0-is c.in-Err-TooLong.ensures.leaves in
-    HasFile-map (g.S.Shelf.told c.args.shelf.now c.args.name.now) (λ bytes. 16777216 < length bytes) (λ bytes. session_file c.args.inst.now.rows bytes ≡ Err TooLong)
+    let leaves : Leaves (g.S.Shelf.told c.args.shelf.now c.args.name.now) SESSION_FILE_LIMIT c.fetch.new.into.items (Err failures.TooLong) =
+    subst (λ (f : FetchFault). Leaves (g.S.Shelf.told c.args.shelf.now c.args.name.now) SESSION_FILE_LIMIT c.fetch.new.into.items (Err f)) c.in-Err-TooLong.field-0-is c.in-Err-TooLong.ensures.leaves in
+    HasFile-map (g.S.Shelf.told c.args.shelf.now c.args.name.now) (λ bytes. SESSION_FILE_LIMIT < length bytes) (λ bytes. session_file c.args.inst.now.rows bytes ≡ Err TooLong)
     (sessions-too_long c.args.inst.now.rows)
-    (HasFile-from_longer (g.S.Shelf.told c.args.shelf.now c.args.name.now) 16777216 c.fetch.new.into.items leaves.0 leaves.1)
-
-pub returns-in-Ok-read_sessions-clause-script : goal.returns-in-Ok-read_sessions-clause-script
-returns-in-Ok-read_sessions-clause-script g c =
-    session_file-script c.args.inst.now.rows c.deref.result.now c.in-Ok-read_sessions.script c.in-Ok-read_sessions.ensures
+    (HasFile-from_longer (g.S.Shelf.told c.args.shelf.now c.args.name.now) SESSION_FILE_LIMIT c.fetch.new.into.items leaves.0 leaves.1)

@@ -5,6 +5,7 @@ use Rattle.std.specs.List.{best_of}
 use Rattle.ct_vectors.proofs.Sums.{length-subtract}
 use Rattle.ct_vectors.specs.Vectors.{total, subtract, scale, Divides}
 use Rattle.ct_vectors.proofs.Divisors.{times-le-total, total-divides, subtract-divides}
+use Rattle.ct_vectors.specs.declared.limits.TheConstants.{JOB_GRADE_LIMIT}
 use Rattle.ct_instance.specs.Instance.{Problem, column_count}
 use Rattle.ct_instance.specs.Jobs.{the_column}
 use Rattle.ct_instance.specs.Fiber.{is_lower, fiber_of}
@@ -66,8 +67,8 @@ descend-requires t c =
               (
                 omega arith,
                 (
-                  subst (λ l. All (λ y. y ≤ 32000000000000) l) (sym c.set.ensures)
-                      (All-set (λ y. y ≤ 32000000000000) c.loop-x.point c.args.j c.loop-x.x (omega arith) c.loop-x.invariant.point_limit),
+                  subst (λ l. All (λ y. y ≤ JOB_GRADE_LIMIT) l) (sym c.set.ensures)
+                      (All-set (λ y. y ≤ JOB_GRADE_LIMIT) c.loop-x.point c.args.j c.loop-x.x (omega arith) c.loop-x.invariant.point_limit),
                   c.loop-x.invariant.best_limit,
                 ),
               ),

@@ -1,3 +1,4 @@
+use Rattle.ct_walk.proofs.Followed.{walk_follows}
 use Rattle.ct_walk.proofs.WalkFacts.{step_is_free, walk_leads, walk_normal, walk_exists, walk_one}
 use Rattle.ct_walk.proofs.laws.each_point_has_one_walk.Goals as goal
 
@@ -15,3 +16,6 @@ returns-clause-some c = walk_exists
 
 pub returns-clause-only : goal.returns-clause-only
 returns-clause-only c = walk_one
+
+pub returns-clause-follows : goal.returns-clause-follows
+returns-clause-follows c = walk_follows

@@ -1,3 +1,4 @@
+use Rattle.ct_walk.proofs.Followed.{leads_by_more}
 use Rattle.ct_walk.proofs.Steps.{head_positive, free_step_down, leads_down, leads_of_sum, coordinates_within}
 use Rattle.ct_walk.proofs.laws.steps_go_down.Goals as goal
 
@@ -12,6 +13,9 @@ returns-clause-leads c = leads_down
 
 pub returns-clause-sums : goal.returns-clause-sums
 returns-clause-sums c = λ i ms a p q r e f l. leads_of_sum i ms a p q r e l
+
+pub returns-clause-more : goal.returns-clause-more
+returns-clause-more c = leads_by_more
 
 pub returns-clause-within : goal.returns-clause-within
 returns-clause-within c = coordinates_within

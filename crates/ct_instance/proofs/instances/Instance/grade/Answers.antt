@@ -7,7 +7,7 @@ use Rattle.ct_instance.proofs.instances.Instance.grade.Goals as goal
 pub grade_by_sums-requires-clause-fits : goal.grade_by_sums-requires-clause-fits
 grade_by_sums-requires-clause-fits c =
     let same : weighted c.deref.result.now c.as_slice.result.now ≡ grade_of c.args.self.now.columns c.args.p.now =
-    ap (λ s. weighted s c.as_slice.result.now) (c.deref.ensures.value ∙ c.self.invariant.1) ∙
+    ap (λ s. weighted s c.as_slice.result.now) (c.deref.ensures.value ∙ c.self.invariant.sums_of_columns) ∙
     ap (λ p. weighted (map total c.self.inside.columns.items) p) c.as_slice.ensures.coordinates ∙
     sym (grade_is_weighted c.self.inside.columns.items c.args.p.now) ∙ ap (λ v. grade_of v.columns c.args.p.now) c.self.view_is in
     omega arith
@@ -15,7 +15,7 @@ grade_by_sums-requires-clause-fits c =
 pub returns : goal.returns
 returns c =
     let same : weighted c.deref.result.now c.as_slice.result.now ≡ grade_of c.args.self.now.columns c.args.p.now =
-    ap (λ s. weighted s c.as_slice.result.now) (c.deref.ensures.value ∙ c.self.invariant.1) ∙
+    ap (λ s. weighted s c.as_slice.result.now) (c.deref.ensures.value ∙ c.self.invariant.sums_of_columns) ∙
     ap (λ p. weighted (map total c.self.inside.columns.items) p) c.as_slice.ensures.coordinates ∙
     sym (grade_is_weighted c.self.inside.columns.items c.args.p.now) ∙ ap (λ v. grade_of v.columns c.args.p.now) c.self.view_is in
     c.grade_by_sums.ensures ∙ same

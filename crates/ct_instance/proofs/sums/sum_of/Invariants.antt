@@ -1,6 +1,0 @@
-use Rattle.std.proofs.Common.{◌≡◌, ◌+◌, drop}
-use Rattle.ct_vectors.specs.Vectors.{total}
-use Rattle.ct_instance.proofs.sums.sum_of.Given as goal
-
-abbrev pub invariant-loop-i : goal.invariant-loop-i
-invariant-loop-i l = l.sum + total (drop l.i l.p) ≡ total l.p

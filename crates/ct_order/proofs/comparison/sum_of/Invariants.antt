@@ -1,6 +1,0 @@
-use Rattle.std.proofs.Common.{◌≡◌, ◌+◌, ◌*◌, ◌≤◌, drop}
-use Rattle.ct_vectors.specs.Vectors.{total}
-use Rattle.ct_order.proofs.comparison.sum_of.Given as goal
-
-abbrev pub invariant-loop-i : goal.invariant-loop-i
-invariant-loop-i l = record { so_far : l.sum + total (drop l.i l.p) ≡ total l.p; bound : l.sum ≤ l.i * 32000000000000 }

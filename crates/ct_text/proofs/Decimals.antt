@@ -20,10 +20,6 @@ AreDigits ds = list_all is_ascii_digit ds ≡ true
 own : IsNumeralModel AreDigits value_of
 own = numerals_by_fold AreDigits (search rules) value_after (search rules)
 
-guard : (test long x : Bool) → long ≡ false → cond test long x ≡ true → (test ≡ false) × (x ≡ true)
-guard true long x h e = absurd cc
-guard false long x h e = (refl, e)
-
 both : (x y : Bool) → (x && y) ≡ true → (x ≡ true) × (y ≡ true)
 both true y e = (refl, e)
 both false y e = absurd cc

@@ -12,13 +12,16 @@ use Rattle.std.specs.BTreeMap.Range.{entries_between}
 use Rattle.std.proofs.lemmas.Bool.{lt-ltb, le-ltb, ne_eqb}
 use Rattle.std.proofs.lemmas.Cmp.{ranked}
 use Rattle.std.proofs.lemmas.Option.{get_or_from_slice_get}
+use Rattle.std.proofs.lemmas.List.{map-append}
 use Rattle.std.proofs.lemmas.Map.Keys.{sorted_head, sorted_tail}
 use Rattle.std.proofs.lemmas.List.Sorted.{IsPermutation-refl, IsPermutation-sym, IsPermutation-trans, IsPermutation-to_front, IsPermutation-middle, IsPermutation-append_left, IsPermutation-append_right}
 use Rattle.ct_instance.specs.declared.jobs.Job.{Job}
 use Rattle.ct_instance.specs.declared.jobs.Job.TheVariants.{Pair}
 use Rattle.ct_instance.specs.Versions.{least_above}
 use Rattle.ct_jobs.specs.declared.graded.GradedJob.{GradedJob}
+use Rattle.ct_jobs.specs.declared.graded.GradedPair.{GradedPair}
 use Rattle.ct_jobs.specs.declared.one_grade.OneGrade.{OneGrade}
+use Rattle.ct_jobs.specs.Kept.{pair_of}
 use Rattle.ct_jobs.specs.GradedJobs.{next_grade, of_grade, lesser_of}
 use Rattle.ct_jobs.specs.PairsByGrade.{graded_pair, pairs_in, jobs_in, graded_in, graded_entries}
 use Rattle.ct_jobs.proofs.NextGrades.{lesser_of_assoc, least_above-cons, next_grade-append, of_grade-append}
@@ -38,7 +41,7 @@ past x bs rs ss h =
     IsPermutation-trans (x ∷ (bs ++ rs)) (bs ++ x ∷ rs) (bs ++ ss) (IsPermutation-sym (bs ++ x ∷ rs) (x ∷ (bs ++ rs)) (IsPermutation-middle bs x rs))
     (IsPermutation-append_right bs (x ∷ rs) ss h)
 
-pub at_its_end : (x : GradedJob) (bs rs : List GradedJob) → IsPermutation (x ∷ (bs ++ rs)) ((bs ++ x ∷ []) ++ rs)
+at_its_end : (x : GradedJob) (bs rs : List GradedJob) → IsPermutation (x ∷ (bs ++ rs)) ((bs ++ x ∷ []) ++ rs)
 at_its_end x bs rs = IsPermutation-append_left rs (x ∷ bs) (bs ++ x ∷ []) (IsPermutation-sym (bs ++ x ∷ []) (x ∷ bs) (IsPermutation-to_front bs x))
 
 map_push : (k : ℕ) (ps : List (ℕ × ℕ)) (p : ℕ × ℕ) → map (graded_pair k) (ps ++ p ∷ []) ≡ map (graded_pair k) ps ++ graded_pair k p ∷ []
@@ -91,19 +94,24 @@ pair_inserted g p v (e ∷ es) l h = go (nat_cmp g e.0) refl l (pair_inserted g 
     go Equal q f rest = absurd (true≢false (ap is_some_of f))
     go Greater q f rest = past (graded_pair g p) (graded_in e) (graded_entries es) (graded_entries (insert_entry nat_cmp es g v)) (rest f h)
 
--- ---- the last of the parked jobs is taken in
+-- ---- the last of the parked pairs is taken in
 
-pub last_popped : (js rest : List GradedJob) (n : ℕ) (r : Option GradedJob) (x : GradedJob) → n ≡ length js → js ≡ rest ++ option_to_list r → ((d : GradedJob) → 0 < n → r ≡ Some (get_or js (n - 1) d)) →
+pub last_popped : (js rest : List GradedPair) (n : ℕ) (r : Option GradedPair) (x : GradedPair) → n ≡ length js → js ≡ rest ++ option_to_list r → ((d : GradedPair) → 0 < n → r ≡ Some (get_or js (n - 1) d)) →
     Some x ≡ slice_get js (length js - 1) → js ≡ rest ++ x ∷ []
 last_popped [] rest n r x l e v g = absurd (true≢false (ap is_some_of g))
 last_popped (j ∷ js) rest n r x l e v g =
     e ∙ ap (λ o. rest ++ option_to_list o) (v x (omega (arith, l)) ∙ ap Some (ap (λ k. get_or (j ∷ js) (k - 1) x) l ∙ get_or_from_slice_get (j ∷ js) (length (j ∷ js) - 1) x x (sym g)))
 
-pub last_moved : (all kept more js rest : List GradedJob) (x : GradedJob) → IsPermutation all (kept ++ js) → IsPermutation (x ∷ kept) more → js ≡ rest ++ x ∷ [] → IsPermutation all (more ++ rest)
+pub last_moved : (all kept more : List GradedJob) (js rest : List GradedPair) (x : GradedPair) → IsPermutation all (kept ++ map pair_of js) → IsPermutation (pair_of x ∷ kept) more → js ≡ rest ++ x ∷ [] →
+    IsPermutation all (more ++ map pair_of rest)
 last_moved all kept more js rest x p h e =
-    IsPermutation-trans all (kept ++ js) (more ++ rest) p
-    (subst (λ l. IsPermutation l (more ++ rest)) (append_assoc kept rest (x ∷ []) ∙ ap (λ l. kept ++ l) (sym e))
-    (IsPermutation-trans ((kept ++ rest) ++ x ∷ []) (x ∷ (kept ++ rest)) (more ++ rest) (IsPermutation-to_front (kept ++ rest) x) (IsPermutation-append_left rest (x ∷ kept) more h)))
+    let front = kept ++ map pair_of rest in
+    let split : kept ++ map pair_of js ≡ front ++ pair_of x ∷ [] =
+    ap (λ l. kept ++ map pair_of l) e ∙ ap (λ l. kept ++ l) (map-append pair_of rest (x ∷ [])) ∙ sym (append_assoc kept (map pair_of rest) (pair_of x ∷ [])) in
+    IsPermutation-trans all (kept ++ map pair_of js) (more ++ map pair_of rest) p
+    (subst (λ l. IsPermutation l (more ++ map pair_of rest)) (sym split)
+    (IsPermutation-trans (front ++ pair_of x ∷ []) (pair_of x ∷ front) (more ++ map pair_of rest) (IsPermutation-to_front front (pair_of x))
+    (IsPermutation-append_left (map pair_of rest) (pair_of x ∷ kept) more h)))
 
 -- ---- the next grade
 

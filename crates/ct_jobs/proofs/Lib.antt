@@ -1,3 +1,4 @@
+pub mod TwoHeads
 pub mod PairGrades
 pub mod NextGrades
 pub mod Rows

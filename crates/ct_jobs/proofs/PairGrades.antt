@@ -1,21 +1,19 @@
 -- Bounds on the grade of a pair and on the coordinates of its ends.
-use Rattle.std.proofs.Common.{ℕ, ◌+◌, ◌*◌, ◌≤◌, ◌<◌, ◌≡◌, List, [], length, get_or, sym, ap, subst, ◌∙◌, arith, refl, Bool, ◌↔◌, IsTrue, ap₂, zero, suc}
-use Rattle.std.proofs.lemmas.List.Elements.{All-get_or}
-use Rattle.std.proofs.lemmas.List.{get_or_default}
-use Rattle.ct_vectors.specs.Vectors.{total, add, subtract, scale, lcm, Divides, Disjoint, disjoint}
-use Rattle.ct_vectors.proofs.Sums.{length-add_same, scale-one}
-use Rattle.ct_vectors.proofs.Divisors.{Divides-add, Divides-add_left, Divides-lcm, Divides-lcm_right, lcm-divides, length-lcm, Disjoint-from_test, test_from_Disjoint}
-use Rattle.ct_instance.specs.Instance.{Problem, IsColumn, IsInstance, IsPoint, column_count, degree_of, grade_of}
+use Rattle.std.proofs.Common.{ℕ, ◌+◌, ◌-◌, ◌≤◌, ◌≡◌, List, [], length, map, get_or, sym, ap, subst, ◌∙◌, arith, refl, Bool, ◌↔◌, IsTrue, ap₂, zero, suc}
+use Rattle.std.proofs.lemmas.List.{get_or_default, get_or-map}
+use Rattle.ct_vectors.specs.Vectors.{total, add, lcm, Disjoint, disjoint}
+use Rattle.ct_vectors.proofs.Sums.{length-add_same}
+use Rattle.ct_vectors.proofs.Divisors.{Divides-add, Divides-add_left, Divides-lcm, lcm-divides, length-lcm, Disjoint-from_test, test_from_Disjoint}
+use Rattle.ct_instance.specs.Instance.{Problem, IsPoint, column_count, degree_of, grade_of}
 use Rattle.ct_instance.specs.TestSet.{Binomial}
 use Rattle.ct_instance.specs.Walk.{IsMove}
 use Rattle.ct_instance.specs.Fiber.{IsInFiber}
 use Rattle.ct_instance.specs.Jobs.{the_move, the_column}
 use Rattle.ct_instance.proofs.Degree.{columns, grade-add, grade-divides, coordinate-le-grade}
-use Rattle.ct_vectors.proofs.Sums.{total-limit}
 use Rattle.ct_walk.specs.Moves.{MoveList, IsMoveList, IsSmallMove}
 use Rattle.ct_walk.proofs.Ends.{the_move_at, the_column_is, swapped_in_fiber}
 use Rattle.ct_walk.proofs.Steps.{move_at_listed}
-use Rattle.ct_jobs.specs.Leaves.{Leaves}
+use Rattle.ct_jobs.specs.Leaves.{Leaves, left_of}
 
 -- the move with a number of the list is one of its moves
 pub small_move : (l : MoveList) → IsMoveList l → (k : ℕ) → 1 ≤ k → k ≤ length l.moves → IsSmallMove l.instance (the_move l.moves k)
@@ -42,49 +40,38 @@ pair_grade_limit i m n a b =
     let g : grade_of i.columns (lcm m.head n.head) ≤ grade_of i.columns m.head + grade_of i.columns n.head = grade-lcm i.columns m.head n.head (heads_wide i m n a.move b.move) in
     omega (arith, a.grade, b.grade)
 
-pub leaves : (i : Problem) → IsInstance i → (l : List ℕ) → IsPoint i l → grade_of i.columns l ≤ 32000000000000 → (m : Binomial) → IsMove i m → Divides m.head l → Leaves l m
-leaves i h l p g m a d =
-    let f : IsInFiber i (degree_of i.columns l) (add (subtract l m.head) m.tail) = swapped_in_fiber i m a l p d in
+-- what one move of a list leaves of the least common multiple of its head and that of another
+pub leaves : (l : MoveList) → IsMoveList l → (a b : ℕ) → 1 ≤ a → a ≤ length l.moves → 1 ≤ b → b ≤ length l.moves → (p : List ℕ) → IsPoint l.instance p →
+    Leaves p (the_move l.moves a) (the_move l.moves b)
+leaves l h a b some-a within-a some-b within-b p e =
+    let i = l.instance in
+    let m = the_move l.moves a in
+    let n = the_move l.moves b in
+    let x : IsSmallMove i m = small_move l h a some-a within-a in
+    let y : IsSmallMove i n = small_move l h b some-b within-b in
+    let both : IsPoint i (lcm m.head n.head) = lcm_is_point i m n x.move y.move in
+    let f : IsInFiber i (degree_of i.columns (lcm m.head n.head)) (left_of m n) = swapped_in_fiber i m x.move (lcm m.head n.head) both (Divides-lcm m.head n.head) in
+    let g : grade_of i.columns (lcm m.head n.head) ≤ 32000000000000 = pair_grade_limit i m n x y in
     record {
-      head_width = p ∙ sym a.head;
-      tail_width = p ∙ sym a.tail;
-      at_most = d;
-      fits = λ k e b.
-          let c : get_or (add (subtract l m.head) m.tail) k 0 ≤ grade_of i.columns (add (subtract l m.head) m.tail) = coordinate-le-grade i.rows i.columns (columns i h) (add (subtract l m.head) m.tail) k in
-          let s : grade_of i.columns (add (subtract l m.head) m.tail) ≡ grade_of i.columns l = ap total f.degree in
-          let z : get_or (add (subtract l m.head) m.tail) k e ≡ get_or (add (subtract l m.head) m.tail) k 0 = get_or_default (add (subtract l m.head) m.tail) k e 0 b in
+      place_width = e ∙ sym x.move.head;
+      tail_width = x.move.tail ∙ sym x.move.head;
+      other_width = y.move.head ∙ sym x.move.head;
+      fits = λ k d b.
+          let c : get_or (left_of m n) k 0 ≤ grade_of i.columns (left_of m n) = coordinate-le-grade i.rows i.columns (columns i h.instance) (left_of m n) k in
+          let s : grade_of i.columns (left_of m n) ≡ grade_of i.columns (lcm m.head n.head) = ap total f.degree in
+          let z : get_or (left_of m n) k d ≡ get_or (left_of m n) k 0 = get_or_default (left_of m n) k d 0 b in
           omega arith;
     }
 
--- the same with a count of one written out
-pub left_once : (l h t : List ℕ) → add (subtract l (scale 1 h)) (scale 1 t) ≡ add (subtract l h) t
-left_once l h t = ap₂ (λ x y. add (subtract l x) y) (scale-one h) (scale-one t)
-
--- the sum of a column fits
-pub column_limit : (i : Problem) → IsInstance i → (j : ℕ) → 1 ≤ j → j ≤ column_count i → total (the_column i j) ≤ 16000000
-column_limit i h zero a b = absurd (omega arith)
-column_limit i h (suc j) a b =
-    let c : IsColumn i.rows (get_or i.columns j []) = All-get_or (IsColumn i.rows) i.columns j [] (omega arith) h.is_column in
-    let t : total (get_or i.columns j []) ≤ length (get_or i.columns j []) * 1000000 = total-limit 1000000 (get_or i.columns j []) c.limit in
-    let e : total (the_column i (suc j)) ≡ total (get_or i.columns j []) = ap total (the_column_is i j) in
-    let r : i.rows ≤ 16 = h.row_limit in
-    let w : length (get_or i.columns j []) ≡ i.rows = c.entries in
-    omega arith
+-- the sum of the column j
+pub column_sum : (i : Problem) (ss : List ℕ) (j : ℕ) → 1 ≤ j → j ≤ column_count i → ss ≡ map total i.columns → get_or ss (j - 1) 0 ≡ total (the_column i j)
+column_sum i ss zero a b e = absurd (omega arith)
+column_sum i ss (suc j) a b e =
+    let k : suc j - 1 ≡ j = omega arith in
+    ap₂ (λ l n. get_or l n 0) e k ∙ get_or-map total i.columns j [] 0 (omega arith) ∙ ap total (sym (the_column_is i j))
 
 -- what a test of two heads tells
 pub coprime_test : (b : Bool) (p q r s : List ℕ) → b ≡ disjoint p q → p ≡ r → q ≡ s → IsTrue b ↔ Disjoint r s
 coprime_test b p q r s e f g =
     let same : b ≡ disjoint r s = e ∙ ap₂ disjoint f g in
     (λ t. Disjoint-from_test r s (sym same ∙ t), λ d. same ∙ test_from_Disjoint r s d)
-
--- what both moves of a pair leave of the least common multiple of their heads
-pub pair_leaves : (l : MoveList) → IsMoveList l → (a b : ℕ) → 1 ≤ a → a < b → b ≤ length l.moves → (both : List ℕ) (m n : Binomial) →
-    both ≡ lcm m.head n.head → m ≡ the_move l.moves a → n ≡ the_move l.moves b → Leaves both m × Leaves both n
-pair_leaves l h a b some between last both m n e f g =
-    let x : IsSmallMove l.instance m = subst (IsSmallMove l.instance) (sym f) (small_move l h a some (omega arith)) in
-    let y : IsSmallMove l.instance n = subst (IsSmallMove l.instance) (sym g) (small_move l h b (omega arith) last) in
-    let p : IsPoint l.instance (lcm m.head n.head) = lcm_is_point l.instance m n x.move y.move in
-    let k : grade_of l.instance.columns (lcm m.head n.head) ≤ 32000000000000 = pair_grade_limit l.instance m n x y in (
-      subst (λ (q : List ℕ). Leaves q m) (sym e) (leaves l.instance h.instance (lcm m.head n.head) p k m x.move (Divides-lcm m.head n.head)),
-      subst (λ (q : List ℕ). Leaves q n) (sym e) (leaves l.instance h.instance (lcm m.head n.head) p k n y.move (Divides-lcm_right m.head n.head)),
-    )

@@ -108,6 +108,14 @@ rows_all i ms from =
     ap (map (with_grade i ms)) (filter-append (is_pair_from from) (map Generator (numbers_after 0 (column_count i))) (flat_map (λ a. map (Pair a) (numbers_after a (length ms))) (numbers_after 0 (length ms))) ∙
     ap₂ ◌++◌ (filter-generators from (numbers_after 0 (column_count i))) (filter-rows from (length ms) (numbers_after 0 (length ms))))
 
+rows_of_none : (from n : ℕ) (ns : List ℕ) → n < from → flat_map (λ a. row_from from a n) ns ≡ []
+rows_of_none from n [] l = refl
+rows_of_none from n (a ∷ ns) l = ap₂ ◌++◌ (row_none from a n (omega arith)) (rows_of_none from n ns l)
+
+-- where no move has a number from there on
+pub rows_none : (i : Problem) (ms : List Binomial) (from : ℕ) → length ms < from → graded_pairs_from i ms from ≡ []
+rows_none i ms from l = rows_all i ms from ∙ ap (map (with_grade i ms)) (rows_of_none from (length ms) (numbers_after 0 (length ms)) l)
+
 -- a loop's step over the moves
 pub rows_push : (i : Problem) (ms : List Binomial) (from n k : ℕ) →
     map (with_grade i ms) (flat_map (λ a. row_from from a n) (numbers_after 0 (k + 1))) ≡

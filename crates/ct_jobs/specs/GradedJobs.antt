@@ -56,6 +56,6 @@ pub record Store : Type 0 where
   pub spare : ℕ
 
 -- room for one addition, where none is parked
-abbrev pub room_beside : List GradedJob → ℕ
+abbrev pub room_beside : {X : Type 0} → List X → ℕ
 room_beside [] = 1
-room_beside (j ∷ js) = 0
+room_beside (x ∷ xs) = 0

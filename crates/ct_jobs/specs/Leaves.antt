@@ -1,11 +1,14 @@
--- What a move leaves of a point that its head divides.
+-- What a move leaves of the least common multiple of its head and another.
 use Rattle.std.specs.Prelude.{ℕ, ◌<◌, ◌≡◌, ◌^◌, List, All, length}
-use Rattle.ct_vectors.specs.Vectors.{add, subtract, Divides}
+use Rattle.ct_vectors.specs.Vectors.{add, subtract, lcm}
 use Rattle.ct_instance.specs.TestSet.{Binomial}
 
--- the move can be taken once at this point, and what it leaves fits
-pub record Leaves (p : List ℕ) (m : Binomial) : Type 0 where
-  pub head_width : length p ≡ length m.head
-  pub tail_width : length p ≡ length m.tail
-  pub at_most : Divides m.head p
-  pub fits : All (λ x. x < 2 ^ 64) (add (subtract p m.head) m.tail)
+abbrev pub left_of : Binomial → Binomial → List ℕ
+left_of m other = add (subtract (lcm m.head other.head) m.head) m.tail
+
+-- the points have one width, and what is left fits
+pub record Leaves (place : List ℕ) (m other : Binomial) : Type 0 where
+  pub place_width : length place ≡ length m.head
+  pub tail_width : length m.tail ≡ length m.head
+  pub other_width : length other.head ≡ length m.head
+  pub fits : All (λ x. x < 2 ^ 64) (left_of m other)

@@ -1,4 +1,5 @@
 pub mod GradedJobs
+pub mod Kept
 pub mod Leaves
 pub mod Laws
 pub mod PairsByGrade

@@ -1,11 +1,13 @@
-ghost use Rattle.std.specs.Prelude.{◌≡◌, ◌≤◌, List, [], ◌∷◌, ◌++◌, IsPermutation, IfOk, OnOk, OnErr};
+//! The jobs of a list of moves as that grows.
+ghost use Rattle.std.specs.Prelude.{◌≡◌, ◌≤◌, List, [], ◌++◌, map, IsPermutation, IfOk, OnOk, OnErr};
 ghost use Rattle.ct_instance.specs.Jobs.{jobs_at};
 ghost use Rattle.ct_jobs.specs.GradedJobs.{room_beside};
+ghost use Rattle.ct_jobs.specs.Kept.{pair_of};
 
 use crate::addition::Addition;
 use crate::by_grade::ByGrade;
 use crate::critical::column_grade;
-use crate::graded::GradedJob;
+use crate::graded::{GradedGenerator, GradedPair};
 use crate::scans::{gather, lesser, next_among};
 use ct_instance::{Instance, Job};
 use ct_walk::Moves;
@@ -15,21 +17,22 @@ use std::marker::Model;
 /// The jobs of a list of moves, with their grades.
 ///
 /// The pairs stand in an ordered map by grade: 8 bytes each in the list of their grade, which may have room for as many
-/// again, and some 50 to 150 bytes for a grade. The generators and the last addition stand beside it, with 24 bytes a job.
+/// again, and some 50 to 150 bytes for a grade. The generators and the last addition stand beside it, with 16 bytes a job.
 #[derive(Debug, Drop)]
 pub struct Buckets {
-    beside: Vec<GradedJob>,
+    generators: Vec<GradedGenerator>,
     merged: ByGrade,
-    parked: Vec<GradedJob>,
+    parked: Vec<GradedPair>,
 }
 
 impl Model for Buckets {
-    ghost use Rattle.std.specs.Prelude.{◌++◌};
+    ghost use Rattle.std.specs.Prelude.{◌++◌, map};
     ghost use Rattle.ct_jobs.specs.GradedJobs.{Store, room_beside};
+    ghost use Rattle.ct_jobs.specs.Kept.{generator_of, pair_of};
 
     ghost Value = { Store };
 
-    ghost view = { λ b. record { jobs = (b.beside.items ++ b.merged) ++ b.parked.items; spare = room_beside b.parked.items } };
+    ghost view = { λ b. record { jobs = (map generator_of b.generators.items ++ b.merged) ++ map pair_of b.parked.items; spare = room_beside b.parked.items } };
 }
 
 impl Buckets {
@@ -41,23 +44,23 @@ impl Buckets {
     pub fn new(alloc: Global, inst: &Instance) -> Result<Buckets, AllocError>
         ensures { IfOk result (λ b. AreJobsOf inst.now [] b.jobs) }
     {
-        let mut beside = Vec::new(alloc);
+        let mut generators = Vec::new(alloc);
         let count = inst.columns() as u32;
         for j in 0..count {
-            beside.push(GradedJob {
+            generators.push(GradedGenerator {
                 grade: column_grade(inst, j + 1),
-                job: Job::Generator(j + 1),
+                column: j + 1,
             })?;
         }
         Ok(Buckets {
-            beside,
+            generators,
             merged: ByGrade::new(alloc),
             parked: Vec::new(alloc),
         })
     }
 
     /// The pairs of the moves whose greater number is at least `from`, with their grades. It is linear in the number of
-    /// those pairs times the width.
+    /// those pairs times the width, and takes 16 bytes a pair; where there are no new moves it returns at once.
     pub fn prepare(
         alloc: Global,
         inst: &Instance,
@@ -85,7 +88,7 @@ impl Buckets {
         ensures room { OnOk result (1 ≤ self.new.spare) }
         ensures refused { OnErr result (self.new.spare ≡ self.old.spare) }
     {
-        merge(&mut self.beside, &mut self.merged, &mut self.parked)
+        merge(&mut self.merged, &mut self.parked)
     }
 
     /// Adds the pairs. It takes no memory and can't fail.
@@ -102,7 +105,7 @@ impl Buckets {
         ensures { result ≡ next_grade above (self.now.jobs ++ more.now) }
     {
         let merged = lesser(
-            next_among(&self.beside, above),
+            next_among(&self.generators, above),
             self.merged.next_above(above),
         );
         let here = lesser(merged, next_among(&self.parked, above));
@@ -122,7 +125,7 @@ impl Buckets {
         ensures exact { IfOk result (λ js. (i : Problem) → (ms : List Binomial) → AreJobsOf i ms (self.now.jobs ++ more.now) → js.items ≡ jobs_at i ms grade) }
     {
         let mut jobs = Vec::new(alloc);
-        gather(&mut jobs, &self.beside, grade)?;
+        gather(&mut jobs, &self.generators, grade)?;
         self.merged.gather_pairs(&mut jobs, grade)?;
         gather(&mut jobs, &self.parked, grade)?;
         gather(&mut jobs, more.as_slice(), grade)?;
@@ -131,37 +134,17 @@ impl Buckets {
     }
 }
 
-// Takes all parked jobs in, from the last. A refusal leaves those that are not taken in.
-fn merge(
-    beside: &mut Vec<GradedJob>,
-    merged: &mut ByGrade,
-    parked: &mut Vec<GradedJob>,
-) -> Result<(), AllocError>
-    ensures jobs { IsPermutation ((beside.old.items ++ merged.old) ++ parked.old.items) ((beside.new.items ++ merged.new) ++ parked.new.items) }
+// Takes all parked pairs in, from the last. A refusal leaves those that are not taken in.
+fn merge(merged: &mut ByGrade, parked: &mut Vec<GradedPair>) -> Result<(), AllocError>
+    ensures jobs { IsPermutation (merged.old ++ map pair_of parked.old.items) (merged.new ++ map pair_of parked.new.items) }
     ensures taken { OnOk result (parked.new.items ≡ []) }
     ensures refused { OnErr result (room_beside parked.new.items ≡ room_beside parked.old.items) }
 {
     while let Some(last) = parked.last() {
         let entry = *last;
-        take_in(beside, merged, entry)?;
+        merged.add(entry.grade, (entry.first, entry.second))?;
         parked.pop();
     }
     parked.shrink_to_fit();
-    Ok(())
-}
-
-// Takes a job in: a pair into the map, a generator beside it.
-fn take_in(
-    beside: &mut Vec<GradedJob>,
-    merged: &mut ByGrade,
-    entry: GradedJob,
-) -> Result<(), AllocError>
-    ensures more { OnOk result (IsPermutation (entry ∷ (beside.old.items ++ merged.old)) (beside.new.items ++ merged.new)) }
-    ensures refused { OnErr result (beside.new.items ++ merged.new ≡ beside.old.items ++ merged.old) }
-{
-    match entry.job {
-        Job::Generator(_) => beside.push(entry)?,
-        Job::Pair(i, k) => merged.add(entry.grade, (i, k))?,
-    }
     Ok(())
 }

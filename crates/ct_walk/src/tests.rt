@@ -138,3 +138,25 @@ fn two_points_that_make_no_move(rt: HostRuntime) {
     assert!(rt; refused(&rt, rt.alloc(), &inst, 3, [1, 0, 0], [0, 0, 3]) == Some(MoveFault::Order));
     assert!(rt; refused(&rt, rt.alloc(), &inst, 3, [0, 0, 3], [1, 0, 0]).is_none());
 }
+
+#[test]
+fn a_walk_of_three_steps_by_two_moves_and_three_more(rt: HostRuntime) {
+    let alloc = rt.alloc();
+    let inst = coins(&rt, alloc);
+    let mut two = Moves::new(alloc, Arc::try_clone(&inst).expect(&rt, "another owner"));
+    add(&rt, alloc, &mut two, &inst, 0);
+    add(&rt, alloc, &mut two, &inst, 1);
+    let mut more = Vec::new(alloc);
+    more.push(made(&rt, alloc, &inst, 2)).expect(&rt, "room");
+    more.push(made(&rt, alloc, &inst, 3)).expect(&rt, "room");
+    more.push(made(&rt, alloc, &inst, 4)).expect(&rt, "room");
+    let moves = two.extended(alloc, more).expect(&rt, "room");
+    assert!(rt; two.len() == 2 && moves.len() == 5);
+    let start = point(&rt, alloc, &inst, [9, 1, 7]);
+    assert!(rt; inst.grade_wide(&start) == 39);
+    let (steps, end) = walk(alloc, &moves, start)
+        .expect(&rt, "room")
+        .into_parts();
+    assert!(rt; steps.as_slice() == [(1, 2), (3, 1), (5, 2)].as_slice());
+    assert!(rt; end.as_slice() == [3, 6, 0].as_slice());
+}

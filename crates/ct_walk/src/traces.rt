@@ -34,6 +34,15 @@ impl Walk {
         &self.end
     }
 
+    /// The steps and the end, with their memory.
+    pub fn into_parts(self) -> (Vec<(u32, u64)>, Point)
+        ensures steps { result.0.items ≡ self.steps }
+        ensures end { result.1 ≡ self.end }
+    {
+        let Walk { steps, end } = self;
+        (steps, end)
+    }
+
     // The walk with these steps and this end.
     pub(crate) fn from_parts(steps: Vec<(u32, u64)>, end: Point) -> Walk
         ensures { result ≡ record { steps = steps.items; end = end } }

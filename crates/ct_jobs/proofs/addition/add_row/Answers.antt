@@ -2,6 +2,7 @@ use Rattle.std.proofs.Common.{ℕ, ◌≤◌, ◌<◌, ◌+◌, ◌-◌, ◌++�
 use Rattle.std.proofs.lemmas.List.{map-append}
 use Rattle.ct_instance.specs.declared.jobs.Job.TheVariants.{Pair}
 use Rattle.ct_jobs.specs.GradedJobs.{with_grade, row_from}
+use Rattle.ct_jobs.specs.Kept.{pair_of}
 use Rattle.ct_jobs.proofs.Rows.{row_push, row_end}
 use Rattle.ct_jobs.proofs.addition.add_row.Goals as goal
 
@@ -12,11 +13,11 @@ loop-k-preserved c =
     let from : ℕ = c.args.from in
     let a : ℕ = c.args.i in
     let k : ℕ = c.loop-k.k in
-    let old = c.args.pairs.now.items in
+    let old = map pair_of c.args.pairs.now.items in
     let low : max a (from - 1) ≤ k = omega arith in
     record {
-      pairs = c.in_ok-push.ensures.items ∙
-          ap₂ (λ l g. l ++ record { grade = g; job = Pair a (k + 1) } ∷ []) c.loop-k.invariant.pairs c.in_ok-grade.ensures ∙
+      pairs = ap (map pair_of) c.in_ok-push.ensures.items ∙ map-append pair_of c.loop-k.pairs.items (record { grade = c.pair_grade-grade.result; first = a; second = k + 1 } ∷ []) ∙
+          ap₂ (λ l g. l ++ record { grade = g; job = Pair a (k + 1) } ∷ []) c.loop-k.invariant.pairs c.pair_grade-grade.ensures ∙
           append_assoc old (map (with_grade i ms) (row_from from a k)) (with_grade i ms (Pair a (k + 1)) ∷ []) ∙
           ap (λ l. old ++ l) (sym (map-append (with_grade i ms) (row_from from a k) (Pair a (k + 1) ∷ [])) ∙ ap (map (with_grade i ms)) (sym (row_push from a k low)));
       start = λ h. absurd (let l : k < length ms = omega arith in omega arith);
@@ -31,4 +32,4 @@ returns c =
     let k : ℕ = c.loop-k.k in
     let low : max a (from - 1) ≤ k = omega arith in
     c.loop-k.invariant.pairs ∙
-    ap (λ l. c.args.pairs.now.items ++ map (with_grade i ms) l) (row_end from a k (length ms) low (λ h. omega arith) (omega arith) (λ h. c.loop-k.invariant.start (omega arith)))
+    ap (λ l. map pair_of c.args.pairs.now.items ++ map (with_grade i ms) l) (row_end from a k (length ms) low (λ h. omega arith) (omega arith) (λ h. c.loop-k.invariant.start (omega arith)))

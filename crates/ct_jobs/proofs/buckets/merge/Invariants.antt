@@ -1,9 +1,10 @@
-use Rattle.std.proofs.Common.{◌≤◌, ◌++◌, IsPermutation, length}
+use Rattle.std.proofs.Common.{◌≤◌, ◌++◌, IsPermutation, length, map}
+use Rattle.ct_jobs.specs.Kept.{pair_of}
 use Rattle.ct_jobs.proofs.buckets.merge.Given as goal
 
 abbrev pub invariant-loop-last : goal.invariant-loop-last
 invariant-loop-last l = record {
-  jobs : IsPermutation ((l.initial.beside.items ++ l.initial.merged) ++ l.initial.parked.items) ((l.beside.items ++ l.merged) ++ l.parked.items);
+  jobs : IsPermutation (l.initial.merged ++ map pair_of l.initial.parked.items) (l.merged ++ map pair_of l.parked.items);
   parked : length l.parked.items ≤ length l.initial.parked.items;
 }
 

@@ -1,8 +1,11 @@
 use Rattle.std.proofs.Common.{ℕ, ◌≡◌, ◌+◌, ◌++◌, map, length, flat_map, sym, ap, ◌∙◌, arith}
 use Rattle.ct_instance.specs.Jobs.{numbers_after}
 use Rattle.ct_jobs.specs.GradedJobs.{with_grade, row_from}
-use Rattle.ct_jobs.proofs.Rows.{rows_push, rows_all}
+use Rattle.ct_jobs.proofs.Rows.{rows_push, rows_all, rows_none}
 use Rattle.ct_jobs.proofs.addition.Addition.prepare.Goals as goal
+
+pub returns-then-from-count : goal.returns-then-from-count
+returns-then-from-count c = c.none.ensures ∙ sym (rows_none c.args.inst.now c.args.moves.now.moves c.args.from (omega arith))
 
 pub loop-i-preserved : goal.loop-i-preserved
 loop-i-preserved c =

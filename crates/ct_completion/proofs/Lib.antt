@@ -1,0 +1,5 @@
+pub mod Permutations
+pub mod Replay
+pub mod Groups
+pub mod Remainders
+pub mod Worked

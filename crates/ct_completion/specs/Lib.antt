@@ -1,0 +1,5 @@
+pub mod Machine
+pub mod Journal
+pub mod Remainders
+pub mod Kept
+pub mod Laws

@@ -1,0 +1,25 @@
+//! How far a version is finished.
+ghost use Rattle.std.specs.Prelude.{IsTrue, ◌↔◌};
+ghost use Rattle.ct_instance.specs.Versions.{Covers};
+ghost use Rattle.ct_version.specs.Editions.{level_seen};
+
+/// The level of a version: the grades for which its list of moves is the whole test list.
+#[derive(Clone, Copy, Debug, PartialEq, Eq)]
+pub enum Finished {
+    /// Each grade up to this one.
+    Upto(u64),
+    /// Each grade.
+    All,
+}
+
+impl Finished {
+    /// Whether the level is at least g.
+    pub fn covers(&self, g: u64) -> bool
+        ensures { IsTrue result ↔ Covers (level_seen self.now) g }
+    {
+        match *self {
+            Finished::Upto(level) => g <= level,
+            Finished::All => true,
+        }
+    }
+}

@@ -1,0 +1,5 @@
+pub mod Ledgers
+pub mod Accepted
+pub mod Refusals
+pub mod Certified
+pub mod Laws

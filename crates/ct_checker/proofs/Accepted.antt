@@ -1,8 +1,7 @@
 -- What an accepted ledger shows: each job of its grades joins, so its moves decide each fiber up to its grade.
 use Rattle.std.proofs.Common.{ℕ, ◌≤◌, ◌≡◌, Some, List, [], ◌∷◌, get_or, All, Contains, refl, sym, subst, subst₂, ap, ap₂, ◌∙◌, arith}
 use Rattle.std.proofs.lemmas.List.Elements.{All-contains, Contains-get_or}
-use Rattle.ct_vectors.specs.Vectors.{total, scale, Divides, up_to}
-use Rattle.ct_vectors.proofs.Places.{Contains-up_to, le-up_to}
+use Rattle.ct_vectors.specs.Vectors.{total, scale, Divides}
 use Rattle.ct_vectors.proofs.Sums.{scale-one}
 use Rattle.ct_vectors.proofs.Divisors.{Divides-refl}
 use Rattle.ct_instance.specs.declared.jobs.Job.{Job}
@@ -11,8 +10,8 @@ use Rattle.ct_instance.specs.Fiber.{IsInFiber, IsLeast}
 use Rattle.ct_instance.specs.Answer.{outcome_of, answer_of}
 use Rattle.ct_instance.specs.TestSet.{Binomial, IsTestList}
 use Rattle.ct_instance.specs.Walk.{IsNormal, AreMoves, Leads, stay, step, moved, IsWalk, ends, walks}
-use Rattle.ct_instance.specs.Jobs.{the_move, IsJob, job_degree_of, job_grade_of, first_end_of, second_end_of, IsCoprime, jobs_at, jobs_up_to}
-use Rattle.ct_instance.proofs.Lists.{Contains-map, map_gives, Contains-flat_map, flat_map_gives}
+use Rattle.ct_instance.specs.Jobs.{the_move, IsJob, job_degree_of, job_grade_of, first_end_of, second_end_of, IsCoprime, jobs_up_to}
+use Rattle.ct_instance.proofs.Lists.{Contains-map, map_gives}
 use Rattle.ct_instance.proofs.JobsList.{jobs_up_to_listed}
 use Rattle.ct_instance.proofs.Fiber.{start_in_fiber, is_least_of, one_least}
 use Rattle.ct_walk.specs.Laws.{HasOneNormalPoint, AreJoined, JobsAreJoined}

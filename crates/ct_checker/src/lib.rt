@@ -5,6 +5,7 @@
 //! lemma each has exactly one point that no head divides, and it is the least (`laws`).
 #![tactic(auto)]
 
+mod job_list;
 pub mod laws;
 mod verdicts;
 

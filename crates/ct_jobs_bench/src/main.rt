@@ -1,8 +1,8 @@
-//! Makes a list of as many moves as its one argument says, puts all their critical pairs into buckets, and counts those
-//! of the last grade. It is run large by `bench/pairs.py`, and small by the gate.
+//! Makes a list of as many moves as its first argument says, of as many columns as its second, puts all their critical
+//! pairs into buckets, and counts those of the last grade. It is run large by `bench/pairs.py`, and small by the gate.
 //!
-//! The moves are of one column with the entry 1 and the cost 1: the k-th takes k artificials away and adds k of the
-//! column. So all heads share a variable, and k - 1 pairs have the grade k.
+//! All entries and costs are 1: the k-th move takes k artificials away and adds k of the first column. So all heads
+//! share a variable, and k - 1 pairs have the grade k.
 #![tactic(auto)]
 
 ghost use Rattle.std.specs.Prelude.{◌≤◌};
@@ -13,13 +13,14 @@ use anyhow::{Context, Result, ensure};
 use ct_jobs::{Addition, Buckets};
 use std::alloc::Global;
 use std::env;
-use synthetic::{instance_of_one, moves_of};
+use synthetic::{instance_of_ones, moves_of};
 
 // How many jobs the last grade has.
-fn last_bucket(alloc: Global, count: u32) -> Result<usize>
-    requires { count ≤ 4096 }
+fn last_bucket(alloc: Global, count: u32, columns: u32) -> Result<usize>
+    requires moves { count ≤ 4096 }
+    requires width { columns ≤ 64 }
 {
-    let inst = instance_of_one(alloc)?;
+    let inst = instance_of_ones(alloc, columns)?;
     let moves = moves_of(alloc, &inst, count)?;
     let mut buckets = Buckets::new(alloc, &inst)?;
     let pairs = Buckets::prepare(alloc, &inst, &moves, 1)?;
@@ -34,14 +35,21 @@ fn last_bucket(alloc: Global, count: u32) -> Result<usize>
     Ok(buckets.jobs_with(alloc, last, &none)?.len())
 }
 
+// The number that an argument says.
+fn number_of(word: Option<String>) -> Result<u32> {
+    let word = word.context("usage: ct_jobs_bench COUNT COLUMNS")?;
+    word.parse::<u32>().context("an argument is no number")
+}
+
 fn main(rt: HostRuntime) -> Result<()> {
     let alloc = rt.alloc();
-    let word = env::args(&rt)?
-        .nth(1)
-        .context("usage: ct_jobs_bench COUNT")?;
-    let count = word.parse::<u32>().context("COUNT is a number")?;
+    let mut words = env::args(&rt)?;
+    let _program = words.next();
+    let count = number_of(words.next())?;
+    let columns = number_of(words.next())?;
     ensure!(count >= 1 && count <= 4096, "COUNT is 1 to 4096");
-    let jobs = last_bucket(alloc, count)?;
+    ensure!(columns >= 1 && columns <= 64, "COLUMNS is 1 to 64");
+    let jobs = last_bucket(alloc, count, columns)?;
     println!(rt; "moves {count} jobs of the last grade {jobs}")?;
     Ok(())
 }

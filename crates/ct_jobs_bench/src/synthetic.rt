@@ -1,3 +1,4 @@
+//! Instances of one row and as many columns as wanted, and moves of which all heads share a variable.
 ghost use Rattle.std.specs.Prelude.{◌≡◌, ◌≤◌, length, IfOk};
 ghost use Rattle.std.specs.Arc.{arc_value};
 ghost use Rattle.ct_walk.specs.Moves.{IsSmallMove};
@@ -9,30 +10,38 @@ use ct_walk::{Move, Moves};
 use std::alloc::Global;
 use std::sync::Arc;
 
-/// One row and one column, with the entry 1 and the cost 1.
-pub fn instance_of_one(alloc: Global) -> Result<Arc<Instance>> {
-    match Instance::new(alloc, 1, 1, &[1], &[1]) {
+/// One row and so many columns, 1 to 64, with all entries and costs 1.
+pub fn instance_of_ones(alloc: Global, columns: u32) -> Result<Arc<Instance>>
+    requires { columns ≤ 64 }
+{
+    let ones = [1; 64];
+    let costs = [1; 64];
+    let n = columns as usize;
+    match Instance::new(alloc, 1, columns, &ones[..n], &costs[..n]) {
         Ok(inst) => Ok(Arc::new(alloc, inst)?),
         Err(fault) => Err(anyhow!("no instance: {fault:?}")),
     }
 }
 
-// Takes k artificials away and adds k of the column.
+// Takes k artificials away and adds k of the first column.
 fn exchange(alloc: Global, inst: &Instance, k: u32) -> Result<Move>
     requires { k ≤ 4096 }
     ensures { IfOk result (λ m. IsSmallMove inst.now m) }
 {
-    ensure!(inst.rows() == 1 && inst.columns() == 1, "another instance");
+    ensure!(inst.rows() == 1, "another instance");
+    let n = inst.columns();
     let k = u64::from(k);
-    let head = Point::from_slice(alloc, &[0, k])?;
-    let tail = Point::from_slice(alloc, &[k, 0])?;
+    let mut head = Point::zero(alloc, n + 1)?;
+    head.set(n, k);
+    let mut tail = Point::zero(alloc, n + 1)?;
+    tail.set(0, k);
     match Move::new(inst, 16_000_000_000_000, head, tail) {
         Ok(made) => Ok(made),
         Err(fault) => Err(anyhow!("no move: {fault:?}")),
     }
 }
 
-/// So many moves: the k-th exchanges k artificials for k of the column.
+/// So many moves: the k-th exchanges k artificials for k of the first column.
 pub fn moves_of(alloc: Global, inst: &Arc<Instance>, count: u32) -> Result<Moves>
     requires { count ≤ 4096 }
     ensures { IfOk result (λ l. l.instance ≡ arc_value inst.now) }

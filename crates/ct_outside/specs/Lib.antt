@@ -1,4 +1,5 @@
 pub mod Faults
+pub mod FileShelf
 pub mod MemFiles
 pub mod MemShelf
 pub mod MemRoom

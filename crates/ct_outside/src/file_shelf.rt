@@ -1,14 +1,16 @@
-// The files of the file system.
+//! The files of the file system.
 ghost use Rattle.std.specs.Prelude.{◌≡◌, ◌≢◌, ◌≤◌, ◌⊎◌, [], ℕ, List, vec_len, OnOk, IsErrOf};
 ghost use Rattle.std.specs.Io.KnownBytes.{Consumes, IsAtEnd};
+ghost use Rattle.std.specs.IoError.{error_kind};
 ghost use Rattle.ct_outside.specs.Faults.{count_of};
+ghost use Rattle.ct_outside.specs.FileShelf.{fault_of_kind};
 ghost use Rattle.ct_outside.specs.Shelf.{untold, Leaves, HasCause, failed_after};
 
 use crate::failed_names::FailedNames;
 use crate::{FetchFault, Shelf};
 use std::alloc::Global;
 use std::fs;
-use std::io::{ErrorKind, Read};
+use std::io::{Error, ErrorKind, Read};
 use std::marker::Model;
 use std::rt::Files;
 
@@ -74,8 +76,9 @@ fn read_file<R: Files>(rt: &R, path: &str, limit: u64, into: &mut Vec<u8>) -> Re
     requires { into.old.items ≡ [] }
     ensures { Leaves untold limit into.new.items result }
 {
-    let Ok(mut file) = fs::open(rt, path) else {
-        return Err(FetchFault::Failed);
+    let mut file = match fs::open(rt, path) {
+        Ok(file) => file,
+        Err(error) => return Err(fault_of(&error)),
     };
     let most = limit.saturating_add(1);
     if let Err(fault) = read_most(&mut file, most, into) {
@@ -106,8 +109,19 @@ fn read_most<F: Read>(file: &mut F, most: u64, into: &mut Vec<u8>) -> Result<(),
             Ok(0) => return Ok(()),
             Ok(count) => into.extend_from_slice(&piece[..count])?,
             Err(error) if error.kind() == ErrorKind::Interrupted => continue,
-            Err(_) => return Err(FetchFault::Failed),
+            Err(error) => return Err(fault_of(&error)),
         }
     }
     Err(FetchFault::Failed)
+}
+
+// Why a file can't be opened or read: want of memory is no fault of the file.
+fn fault_of(error: &Error) -> FetchFault
+    ensures fault { result ≡ fault_of_kind (error_kind error.now) }
+    ensures not_long { result ≢ FetchFault.TooLong }
+{
+    match error.kind() {
+        ErrorKind::OutOfMemory => FetchFault::Memory,
+        _ => FetchFault::Failed,
+    }
 }

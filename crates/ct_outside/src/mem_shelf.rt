@@ -1,4 +1,4 @@
-// Files in memory, whose fetch can be made to fail.
+//! Files in memory, whose fetch can be made to fail.
 ghost use Rattle.std.specs.Prelude.{◌≡◌, ◌≢◌, ◌≤◌, ◌++◌, ◌∷◌, [], ℕ, List, Some, OnOk, OnErr, if◌then◌else◌};
 ghost use Rattle.ct_outside.specs.Faults.{count_of};
 ghost use Rattle.ct_outside.specs.Shelf.{Leaves, HasCause, holds};

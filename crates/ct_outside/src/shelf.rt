@@ -1,4 +1,4 @@
-// Files by their names.
+//! Files by their names.
 ghost use Rattle.std.specs.Prelude.{◌≡◌, ◌≢◌, ◌≤◌, ℕ, List};
 ghost use Rattle.ct_outside.specs.Shelf.{Told, Leaves, HasCause};
 

@@ -1,3 +1,4 @@
+//! What no clause says: that calls succeed, and that the real files and standard output give and take bytes.
 use super::*;
 use std::fs;
 use std::test::Fail;
@@ -62,27 +63,57 @@ fn a_sink_in_memory_holds_a_front_of_the_text(rt: HostRuntime) -> Result<(), Fai
     Ok(())
 }
 
+// Each fetch: the path, its text, the limit, the fault where there is one, and how many bytes are left.
 #[test]
 fn the_file_system_and_standard_output(rt: HostRuntime) -> Result<(), Fail> {
     let alloc = rt.alloc();
-    let path = "ct_outside_text";
-    fs::write(&rt, path, TEXT)?;
+    let mut long = Vec::new(alloc);
+    for number in 0..40_000u32 {
+        long.push((number % 251) as u8)?;
+    }
+    for (path, text) in [("ct_outside_text", TEXT), ("ct_outside_long", &long)] {
+        fs::write(&rt, path, text)?;
+    }
     let whole = TEXT.len();
     let mut shelf = FileShelf::new(&rt, alloc);
     let mut into = Vec::new(alloc);
-    for (name, limit, fault, left) in [
-        (path, 1000, None, whole),
-        (path, whole as u64, None, whole),
-        (path, 20, Some(FetchFault::TooLong), 21),
-        ("ct_outside_no_file", 1000, Some(FetchFault::Failed), 0),
-        (".", 1000, Some(FetchFault::Failed), 0),
+    for (path, text, limit, fault, left) in [
+        ("ct_outside_text", TEXT, 1000, None, whole),
+        ("ct_outside_text", TEXT, whole as u64, None, whole),
+        ("ct_outside_text", TEXT, 20, Some(FetchFault::TooLong), 21),
+        ("ct_outside_long", &long, 1_000_000, None, 40_000),
+        ("ct_outside_long", &long, 40_000, None, 40_000),
+        (
+            "ct_outside_long",
+            &long,
+            39_999,
+            Some(FetchFault::TooLong),
+            40_000,
+        ),
+        (
+            "ct_outside_long",
+            &long,
+            16_384,
+            Some(FetchFault::TooLong),
+            16_385,
+        ),
+        (
+            "ct_outside_long",
+            &long,
+            16_383,
+            Some(FetchFault::TooLong),
+            16_384,
+        ),
+        ("ct_outside_none", TEXT, 1000, Some(FetchFault::Failed), 0),
+        (".", TEXT, 1000, Some(FetchFault::Failed), 0),
     ] {
-        let result = shelf.fetch(alloc, name, limit, &mut into);
-        assert!(rt; result.err() == fault, "{name} {limit}");
-        assert!(rt; into.len() == left, "{name} {limit}");
-        assert!(rt; TEXT.starts_with(into.as_slice()), "{name} {limit}");
+        let result = shelf.fetch(alloc, path, limit, &mut into);
+        assert!(rt; result.err() == fault, "{path} {limit}");
+        assert!(rt; text.get(..left) == Some(into.as_slice()), "{path} {limit}");
     }
-    fs::remove_file(&rt, path)?;
+    for path in ["ct_outside_text", "ct_outside_long"] {
+        fs::remove_file(&rt, path)?;
+    }
     write_whole(&mut StdSink::new(&rt), TEXT)?;
     Ok(())
 }

@@ -1,0 +1,38 @@
+//! What `main` does, with any words, files and output.
+
+use ct_outside::{FileShelf, StdSink};
+use ct_run::{Status, run_plain};
+use std::alloc::AllocError;
+use std::env;
+use std::io::ErrorKind;
+use std::rt::{Env, Files};
+
+/// Runs the command that the words after the program's name are.
+pub fn run_program<E: Env + AllocGlobal, F: Files, P: Print>(
+    env: &E,
+    files: &F,
+    output: &P,
+) -> Status {
+    let alloc = env.alloc();
+    let Ok(words) = words_after_name(env) else {
+        return Status::Memory;
+    };
+    let mut shelf = FileShelf::new(files, alloc);
+    let mut out = StdSink::new(output);
+    run_plain(alloc, &words, &mut shelf, &mut out)
+}
+
+// None where one of them isn't UTF-8, since such words are no command.
+fn words_after_name<E: Env + AllocGlobal>(env: &E) -> Result<Vec<String>, AllocError> {
+    let mut words = Vec::new(env.alloc());
+    match env::args(env) {
+        Ok(args) => {
+            for word in args.skip(1) {
+                words.push(word)?;
+            }
+        }
+        Err(error) if error.kind() == ErrorKind::OutOfMemory => return Err(AllocError),
+        Err(_) => {}
+    }
+    Ok(words)
+}

@@ -1,4 +1,3 @@
-pub mod Ledgers
 pub mod Accepted
 pub mod Refusals
 pub mod Certified

@@ -275,3 +275,7 @@ no_refusal i l = (there, back)
         (cond-true sized None (Some (2, Size)) (and_from (nat_eq l.rows i.rows) (nat_eq l.columns (column_count i)) (eq-eqb l.rows i.rows a.rows) (eq-eqb l.columns (column_count i) a.columns)))
         (ap₂ option_or ((moves_right i l.grade 4 (moves_of l)).1 a.moves)
         ((entries_right i (moves_of l) (4 + length l.moves) (jobs_up_to i (moves_of l) l.grade) l.entries).1 (a.jobs, a.right)))
+
+-- a job that isn't a coprime pair fails the test
+pub coprime_false : (ms : List Binomial) (j : Job) → (IsCoprime ms j → ⊥) → is_coprime ms j ≡ false
+coprime_false ms j n = false_from_ne_true (is_coprime ms j) (λ e. n ((coprime_test ms j).0 e))

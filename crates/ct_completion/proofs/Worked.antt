@@ -1,5 +1,5 @@
 -- The definitions on a worked example, by computation: two coins of 3 and 5 at cost 2 and 3.
-use Rattle.std.proofs.Common.{ℕ, ◌≤◌, ◌<◌, pos, false, ◌≡◌, ⊎_elim, Option, Some, None, List, [], ◌∷◌, map, get_or, refl, sym, subst, arith, lit≤, zero, suc}
+use Rattle.std.proofs.Common.{ℕ, ◌<◌, pos, true, false, ◌≡◌, ⊎_elim, Option, Some, None, List, [], ◌∷◌, map, get_or, refl, sym, subst, arith, lit≤, zero, suc}
 use Rattle.ct_vectors.proofs.Sums.{cons_head}
 use Rattle.ct_instance.specs.declared.jobs.Job.{Job}
 use Rattle.ct_instance.specs.declared.jobs.Job.TheVariants.{Generator, Pair}

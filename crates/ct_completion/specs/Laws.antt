@@ -8,7 +8,7 @@ use Rattle.ct_instance.specs.Jobs.{jobs_at}
 use Rattle.ct_instance.specs.Versions.{version_list, IsVersion}
 use Rattle.ct_instance.specs.Reach.{opened_grade}
 use Rattle.ct_completion.specs.declared.journals.Entry.{Entry}
-use Rattle.ct_completion.specs.Machine.{CompletionState, CompletionEvent, CompletionStep, CompletionRun, just_opened, opened_jobs}
+use Rattle.ct_completion.specs.Machine.{CompletionState, CompletionEvent, CompletionRun, just_opened, opened_jobs}
 use Rattle.ct_completion.specs.Journal.{acts_of, is_publishing, IsReplay, AreAlike, AreSerials, entries_of}
 use Rattle.ct_completion.specs.Remainders.{AreRemainders, points_of, IsGroupMove}
 use Rattle.ct_completion.specs.Kept.{IsMarkRight}

@@ -1,0 +1,4 @@
+pub mod BitFacts
+pub mod Lookups
+pub mod Additions
+pub mod Pages

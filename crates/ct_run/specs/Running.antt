@@ -1,5 +1,5 @@
 -- How a plan runs by what is told of its files, and by their counts of faults before and now.
-use Rattle.std.specs.Prelude.{◌≡◌, ℕ, ◌≤◌, ◌⊎◌, ⊤, List, [], ◌∷◌}
+use Rattle.std.specs.Prelude.{◌≡◌, ℕ, ◌⊎◌, ⊤, List, [], ◌∷◌}
 use Rattle.ct_outside.specs.Faults.{Rose}
 use Rattle.ct_outside.specs.Shelf.{Told, untold, absent, holds}
 use Rattle.ct_run.specs.Outcome.{RunOutcome}
@@ -23,12 +23,6 @@ IfBytes (holds bytes) P = P bytes
 abbrev pub IsAmong : List ℕ → List (List ℕ) → Type 0
 IsAmong name [] = ⊥
 IsAmong name (first ∷ others) = (name ≡ first) ⊎ IsAmong name others
-
--- No file changed, no count fell, and the counts stay of all names but those that were asked for.
-pub record KeepsShelf (told_before told_now : List ℕ → Told) (before now : List ℕ → ℕ) (IsAsked : List ℕ → Type 0) : Type 0 where
-  pub kept : told_now ≡ told_before
-  pub later : (name : List ℕ) → before name ≤ now name
-  pub others : (name : List ℕ) → ¬ (IsAsked name) → now name ≡ before name
 
 -- ---- plans
 

@@ -1,6 +1,7 @@
 //! Files, fetched by their names.
 ghost use Rattle.std.specs.Prelude.{◌≡◌, ◌+◌, take, OnErr, IfOk, IfErr};
-ghost use Rattle.ct_run.specs.Running.{HasBytes, KeepsShelf};
+ghost use Rattle.ct_outside.specs.Shelf.{KeepsShelf};
+ghost use Rattle.ct_run.specs.Running.{HasBytes};
 ghost use Rattle.ct_run.specs.Stopping.{StoppedAt};
 
 use crate::stop::Stop;

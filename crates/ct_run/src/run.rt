@@ -1,10 +1,11 @@
 //! The top call.
 ghost use Rattle.std.specs.Prelude.{◌≡◌, ◌≤◌, ⊤, false, ℕ, List, Some};
 ghost use Rattle.ct_outside.specs.Faults.{Rose};
+ghost use Rattle.ct_outside.specs.Shelf.{KeepsShelf};
 ghost use Rattle.ct_run.specs.Words.{answer};
 ghost use Rattle.ct_run.specs.Outcome.{Wrote, WroteFront, is_stop, IsUnlessStopped, IsUnlessMemory};
 ghost use Rattle.ct_run.specs.Plan.{sessions_plan, plan_of, plan_in};
-ghost use Rattle.ct_run.specs.Running.{Ends, WouldEnd, ComesTo, Runs, KeepsShelf, HasReadFault, NoReadFault};
+ghost use Rattle.ct_run.specs.Running.{Ends, WouldEnd, ComesTo, Runs, HasReadFault, NoReadFault};
 ghost use Rattle.ct_run.specs.Stopping.{Ran};
 
 use crate::ending::{

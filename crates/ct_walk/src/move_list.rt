@@ -2,6 +2,7 @@
 ghost use Rattle.std.specs.Prelude.{◌≡◌, ◌+◌, ◌≤◌, ◌<◌, [], ◌∷◌, ◌++◌, length, map, All, IfOk, OnOk, IfErr};
 ghost use Rattle.std.specs.List.{flat_map};
 ghost use Rattle.std.specs.Arc.{arc_value};
+ghost use Rattle.ct_vectors.specs.Vectors.{IsTimes};
 ghost use Rattle.ct_index.specs.Pages.{IsPaged};
 ghost use Rattle.ct_instance.specs.Instance.{IsPoint};
 ghost use Rattle.ct_instance.specs.Walk.{first_dividing};
@@ -138,12 +139,24 @@ impl Moves {
         &self.slabs[index / BLOCK_SIZE].items()[index % BLOCK_SIZE]
     }
 
+    // How many times the head of the move with this number fits into p.
+    pub(crate) fn times_in(&self, number: u32, p: &Point) -> u64
+        requires some { 1 ≤ number }
+        requires within { number ≤ length self.now.moves }
+        requires point { IsPoint self.now.instance p.now }
+        ensures { IsTimes (the_move self.now.moves number).head p.now result }
+    {
+        let index = number as usize - 1;
+        self.slabs[index / BLOCK_SIZE].times_in(index % BLOCK_SIZE, p)
+    }
+
     /// The least number of a move whose head is at most p. It looks into the index of each slab, and takes no memory.
     pub fn first_dividing(&self, p: &Point) -> Option<u32>
         requires { IsPoint self.now.instance p.now }
         ensures { result ≡ first_dividing self.now.moves p.now }
     {
-        let places = Places::of(p);
+        let mut places = Places::new();
+        places.look_at(p);
         for k in 0..self.slabs.len() {
             if let Some(j) = self.slabs[k].first_dividing(p, &places) {
                 return Some((BLOCK_SIZE * k + j) as u32 + 1);

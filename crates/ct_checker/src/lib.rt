@@ -5,6 +5,8 @@
 //! lemma each has exactly one point that no head divides, and it is the least (`laws`).
 #![tactic(auto)]
 
+mod certifying;
+mod checking;
 mod job_list;
 pub mod laws;
 mod ledger_entries;
@@ -12,4 +14,6 @@ mod ledger_moves;
 mod stops;
 mod verdicts;
 
+pub use certifying::certify;
+pub use checking::check;
 pub use verdicts::{Reason, Verdict};

@@ -1,4 +1,7 @@
 pub mod Accepted
 pub mod Refusals
 pub mod ByGrade
+pub mod Taking
+pub mod Following
+pub mod Entries
 pub mod Worked

@@ -20,8 +20,10 @@ use Rattle.ct_instance.specs.Jobs.{the_move, first_end_of, second_end_of, IsCopr
 use Rattle.ct_walk.specs.Moves.{CanApply, Follows}
 use Rattle.ct_checker.specs.declared.verdicts.Reason.{Reason}
 use Rattle.ct_checker.specs.declared.verdicts.Reason.TheVariants.{Size, Grade, Degree, Order, Entry, Coprime, End}
-use Rattle.ct_checker.specs.Ledgers.{LedgerEntryValue, coprime, walks, LedgerValue}
-use Rattle.ct_checker.specs.Accepted.{job_of, IsLedgerMove, AreWalks, IsEntryRight, IsAccepted}
+use Rattle.ct_ledger.specs.declared.entries.LedgerEntry.{LedgerEntry}
+use Rattle.ct_ledger.specs.declared.entries.LedgerEntry.TheVariants as entry
+use Rattle.ct_ledger.specs.Parts.{LedgerParts}
+use Rattle.ct_checker.specs.Accepted.{moves_of, job_of, IsLedgerMove, AreWalks, IsEntryRight, IsAccepted}
 use Rattle.ct_checker.specs.Refusals.{same_numbers, same_job, is_coprime, can_apply, end_of_steps, move_reason, walks_reason, words_reason, entry_reason, refused_move, refused_entry, refused_size, first_refusal_of}
 
 -- ---- the tests
@@ -179,12 +181,12 @@ walks_meet (Some p) (Some q) e =
     (p, refl, ap Some (sym ((same_numbers_test p q).0 b.0)))
 
 module _ (i : Problem) (ms : List Binomial) where
-  words_right : (e : LedgerEntryValue) → (words_reason i ms e ≡ None) ↔ IsEntryRight i ms e
-  words_right (coprime j) = (
+  words_right : (e : LedgerEntry) → (words_reason i ms e ≡ None) ↔ IsEntryRight i ms e
+  words_right (entry.Coprime j) = (
     λ e. (coprime_test ms j).0 (passes_none (is_coprime ms j) Coprime None e).0,
     λ c. cond-true (is_coprime ms j) None (Some Coprime) ((coprime_test ms j).1 c),
   )
-  words_right (walks j first second) = (there, back)
+  words_right (entry.Walks j first second) = (there, back)
     where
       one : Option (List ℕ)
       one = end_of_steps ms (first_end_of i ms j) first
@@ -192,7 +194,7 @@ module _ (i : Problem) (ms : List Binomial) where
       other : Option (List ℕ)
       other = end_of_steps ms (second_end_of i ms j) second
 
-      there : cond (is_coprime ms j) (Some Coprime) (walks_reason one other) ≡ None → IsEntryRight i ms (walks j first second)
+      there : cond (is_coprime ms j) (Some Coprime) (walks_reason one other) ≡ None → IsEntryRight i ms (entry.Walks j first second)
       there e =
           let b = refuses_none (is_coprime ms j) Coprime (walks_reason one other) e in
           let m = walks_meet one other b.1 in (
@@ -204,7 +206,7 @@ module _ (i : Problem) (ms : List Binomial) where
             },
           )
 
-      back : IsEntryRight i ms (walks j first second) → cond (is_coprime ms j) (Some Coprime) (walks_reason one other) ≡ None
+      back : IsEntryRight i ms (entry.Walks j first second) → cond (is_coprime ms j) (Some Coprime) (walks_reason one other) ≡ None
       back u =
           let w : AreWalks i ms j first second = u.1 in
           cond-false (is_coprime ms j) (Some Coprime) (walks_reason one other)
@@ -212,7 +214,7 @@ module _ (i : Problem) (ms : List Binomial) where
           ap₂ walks_reason ((end_test ms (first_end_of i ms j) w.point first).1 w.first_steps) ((end_test ms (second_end_of i ms j) w.point second).1 w.second_steps) ∙
           cond-true (same_numbers w.point w.point) None (Some End) ((same_numbers_test w.point w.point).1 refl)
 
-  entries_right : (n : ℕ) (js : List Job) (es : List LedgerEntryValue) → (refused_entry i ms n js es ≡ None) ↔ ((map job_of es ≡ js) × All (IsEntryRight i ms) es)
+  entries_right : (n : ℕ) (js : List Job) (es : List LedgerEntry) → (refused_entry i ms n js es ≡ None) ↔ ((map job_of es ≡ js) × All (IsEntryRight i ms) es)
   entries_right n [] [] = (λ e. (refl, All-nil (IsEntryRight i ms)), λ a. refl)
   entries_right n (j ∷ js) [] = (λ e. absurd (cc), λ a. let none : [] ≡ j ∷ js = a.0 in absurd (cc))
   entries_right n [] (e ∷ es) = (λ f. absurd (cc), λ a. let none : job_of e ∷ map job_of es ≡ [] = a.0 in absurd (cc))
@@ -241,28 +243,28 @@ module _ (i : Problem) (ms : List Binomial) where
 
 -- ---- the whole ledger
 
-pub no_refusal : (i : Problem) (l : LedgerValue) → (first_refusal_of i l ≡ None) ↔ IsAccepted i l
+pub no_refusal : (i : Problem) (l : LedgerParts) → (first_refusal_of i l ≡ None) ↔ IsAccepted i l
 no_refusal i l = (there, back)
   where
     sized : Bool
     sized = nat_eq l.rows i.rows && nat_eq l.columns (column_count i)
 
     moves : Option (ℕ × Reason)
-    moves = refused_move i l.grade 4 l.moves
+    moves = refused_move i l.grade 4 (moves_of l)
 
     entries : Option (ℕ × Reason)
-    entries = refused_entry i l.moves (4 + length l.moves) (jobs_up_to i l.moves l.grade) l.entries
+    entries = refused_entry i (moves_of l) (4 + length l.moves) (jobs_up_to i (moves_of l) l.grade) l.entries
 
     there : option_or (refused_size i l) (option_or moves entries) ≡ None → IsAccepted i l
     there e =
         let a = both_none (refused_size i l) (option_or moves entries) e in
         let b = both_none moves entries a.1 in
         let size = and_parts (nat_eq l.rows i.rows) (nat_eq l.columns (column_count i)) (passes_none sized (2, Size) None a.0).0 in
-        let r = (entries_right i l.moves (4 + length l.moves) (jobs_up_to i l.moves l.grade) l.entries).0 b.1 in
+        let r = (entries_right i (moves_of l) (4 + length l.moves) (jobs_up_to i (moves_of l) l.grade) l.entries).0 b.1 in
         record {
           rows = eqb-true l.rows i.rows size.0;
           columns = eqb-true l.columns (column_count i) size.1;
-          moves = (moves_right i l.grade 4 l.moves).0 b.0;
+          moves = (moves_right i l.grade 4 (moves_of l)).0 b.0;
           jobs = r.0;
           right = r.1;
         }
@@ -271,5 +273,9 @@ no_refusal i l = (there, back)
     back a =
         ap₂ option_or
         (cond-true sized None (Some (2, Size)) (and_from (nat_eq l.rows i.rows) (nat_eq l.columns (column_count i)) (eq-eqb l.rows i.rows a.rows) (eq-eqb l.columns (column_count i) a.columns)))
-        (ap₂ option_or ((moves_right i l.grade 4 l.moves).1 a.moves)
-        ((entries_right i l.moves (4 + length l.moves) (jobs_up_to i l.moves l.grade) l.entries).1 (a.jobs, a.right)))
+        (ap₂ option_or ((moves_right i l.grade 4 (moves_of l)).1 a.moves)
+        ((entries_right i (moves_of l) (4 + length l.moves) (jobs_up_to i (moves_of l) l.grade) l.entries).1 (a.jobs, a.right)))
+
+-- a job that isn't a coprime pair fails the test
+pub coprime_false : (ms : List Binomial) (j : Job) → (IsCoprime ms j → ⊥) → is_coprime ms j ≡ false
+coprime_false ms j n = false_from_ne_true (is_coprime ms j) (λ e. n ((coprime_test ms j).0 e))

@@ -2,39 +2,40 @@
 use Rattle.std.proofs.Common.{ℕ, ◌+◌, pos, ◌≡◌, Some, None, List, [], ◌∷◌, ◌++◌, take, drop, refl}
 use Rattle.ct_instance.specs.declared.jobs.Job.TheVariants.{Generator, Pair}
 use Rattle.ct_instance.specs.Instance.{Problem}
-use Rattle.ct_instance.specs.TestSet.{Binomial}
 use Rattle.ct_instance.specs.Jobs.{all_jobs, jobs_at, jobs_up_to}
 use Rattle.ct_checker.specs.declared.verdicts.Reason.TheVariants.{Size, Grade, Degree, Order, Entry, Coprime, Step, End}
-use Rattle.ct_checker.specs.Ledgers.{LedgerEntryValue, coprime, walks, LedgerValue}
+use Rattle.ct_ledger.specs.declared.entries.LedgerEntry.{LedgerEntry}
+use Rattle.ct_ledger.specs.declared.entries.LedgerEntry.TheVariants as entry
+use Rattle.ct_ledger.specs.Parts.{LedgerParts}
 use Rattle.ct_checker.specs.Refusals.{first_refusal_of}
 
 abbrev coins : Problem
 coins = record { rows = 1; columns = (3 ∷ []) ∷ (5 ∷ []) ∷ []; cost_rows = (pos 2 ∷ pos 3 ∷ []) ∷ [] }
 
-abbrev move_of : List ℕ → List ℕ → Binomial
-move_of h t = record { head = h; tail = t }
+abbrev move_of : List ℕ → List ℕ → List ℕ × List ℕ
+move_of h t = (h, t)
 
-abbrev moves : List Binomial
+abbrev moves : List (List ℕ × List ℕ)
 moves =
     move_of (0 ∷ 0 ∷ 3 ∷ []) (1 ∷ 0 ∷ 0 ∷ []) ∷ move_of (1 ∷ 0 ∷ 2 ∷ []) (0 ∷ 1 ∷ 0 ∷ []) ∷
     move_of (0 ∷ 1 ∷ 1 ∷ []) (2 ∷ 0 ∷ 0 ∷ []) ∷ move_of (3 ∷ 0 ∷ 1 ∷ []) (0 ∷ 2 ∷ 0 ∷ []) ∷
     move_of (5 ∷ 0 ∷ 0 ∷ []) (0 ∷ 3 ∷ 0 ∷ []) ∷ []
 
-abbrev entries : List LedgerEntryValue
+abbrev entries : List LedgerEntry
 entries =
-    walks (Generator 1) [] ((1, 1) ∷ []) ∷ walks (Generator 2) [] ((1, 1) ∷ (2, 1) ∷ []) ∷ walks (Pair 1 2) [] ((3, 1) ∷ []) ∷
-    walks (Pair 1 3) [] ((2, 1) ∷ []) ∷ walks (Pair 2 3) [] ((4, 1) ∷ []) ∷ walks (Pair 2 4) [] ((3, 1) ∷ []) ∷
-    walks (Pair 1 4) [] ((3, 2) ∷ []) ∷ walks (Pair 3 4) ((5, 1) ∷ []) [] ∷ []
+    entry.Walks (Generator 1) [] ((1, 1) ∷ []) ∷ entry.Walks (Generator 2) [] ((1, 1) ∷ (2, 1) ∷ []) ∷ entry.Walks (Pair 1 2) [] ((3, 1) ∷ []) ∷
+    entry.Walks (Pair 1 3) [] ((2, 1) ∷ []) ∷ entry.Walks (Pair 2 3) [] ((4, 1) ∷ []) ∷ entry.Walks (Pair 2 4) [] ((3, 1) ∷ []) ∷
+    entry.Walks (Pair 1 4) [] ((3, 2) ∷ []) ∷ entry.Walks (Pair 3 4) ((5, 1) ∷ []) [] ∷ []
 
-abbrev ledger : List Binomial → List LedgerEntryValue → LedgerValue
+abbrev ledger : List (List ℕ × List ℕ) → List LedgerEntry → LedgerParts
 ledger ms es = record { rows = 1; columns = 2; grade = 15; moves = ms; entries = es }
 
 -- the entry e, from 0, replaced by some entries
-abbrev with_entry : ℕ → List LedgerEntryValue → LedgerValue
+abbrev with_entry : ℕ → List LedgerEntry → LedgerParts
 with_entry e new = ledger moves (take e entries ++ new ++ drop (e + 1) entries)
 
 -- the first move replaced
-abbrev with_move : Binomial → LedgerValue
+abbrev with_move : List ℕ × List ℕ → LedgerParts
 with_move m = ledger (m ∷ drop 1 moves) entries
 
 accepted : first_refusal_of coins (ledger moves entries) ≡ None
@@ -57,7 +58,7 @@ order : first_refusal_of coins (with_move (move_of (1 ∷ 0 ∷ 0 ∷ []) (0 ∷
 unfolding jobs_up_to jobs_at all_jobs
 order = refl
 
-exchanged : first_refusal_of coins (ledger moves (walks (Generator 2) [] ((1, 1) ∷ (2, 1) ∷ []) ∷ walks (Generator 1) [] ((1, 1) ∷ []) ∷ drop 2 entries)) ≡ Some (9, Entry)
+exchanged : first_refusal_of coins (ledger moves (entry.Walks (Generator 2) [] ((1, 1) ∷ (2, 1) ∷ []) ∷ entry.Walks (Generator 1) [] ((1, 1) ∷ []) ∷ drop 2 entries)) ≡ Some (9, Entry)
 unfolding jobs_up_to jobs_at all_jobs
 exchanged = refl
 
@@ -74,23 +75,23 @@ missing_last : first_refusal_of coins (ledger moves (take 7 entries)) ≡ Some (
 unfolding jobs_up_to jobs_at all_jobs
 missing_last = refl
 
-not_coprime : first_refusal_of coins (with_entry 2 (coprime (Pair 1 2) ∷ [])) ≡ Some (11, Coprime)
+not_coprime : first_refusal_of coins (with_entry 2 (entry.Coprime (Pair 1 2) ∷ [])) ≡ Some (11, Coprime)
 unfolding jobs_up_to jobs_at all_jobs
 not_coprime = refl
 
-too_often : first_refusal_of coins (with_entry 0 (walks (Generator 1) [] ((1, 2) ∷ []) ∷ [])) ≡ Some (9, Step)
+too_often : first_refusal_of coins (with_entry 0 (entry.Walks (Generator 1) [] ((1, 2) ∷ []) ∷ [])) ≡ Some (9, Step)
 unfolding jobs_up_to jobs_at all_jobs
 too_often = refl
 
-not_once : first_refusal_of coins (with_entry 0 (walks (Generator 1) [] ((1, 0) ∷ (1, 1) ∷ []) ∷ [])) ≡ Some (9, Step)
+not_once : first_refusal_of coins (with_entry 0 (entry.Walks (Generator 1) [] ((1, 0) ∷ (1, 1) ∷ []) ∷ [])) ≡ Some (9, Step)
 unfolding jobs_up_to jobs_at all_jobs
 not_once = refl
 
-no_such_move : first_refusal_of coins (with_entry 0 (walks (Generator 1) [] ((6, 1) ∷ []) ∷ [])) ≡ Some (9, Step)
+no_such_move : first_refusal_of coins (with_entry 0 (entry.Walks (Generator 1) [] ((6, 1) ∷ []) ∷ [])) ≡ Some (9, Step)
 unfolding jobs_up_to jobs_at all_jobs
 no_such_move = refl
 
-apart : first_refusal_of coins (with_entry 0 (walks (Generator 1) [] [] ∷ [])) ≡ Some (9, End)
+apart : first_refusal_of coins (with_entry 0 (entry.Walks (Generator 1) [] [] ∷ [])) ≡ Some (9, End)
 unfolding jobs_up_to jobs_at all_jobs
 apart = refl
 

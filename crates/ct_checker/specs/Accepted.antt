@@ -6,11 +6,17 @@ use Rattle.ct_instance.specs.Fiber.{IsBelow}
 use Rattle.ct_instance.specs.TestSet.{Binomial}
 use Rattle.ct_instance.specs.Jobs.{first_end_of, second_end_of, IsCoprime, jobs_up_to}
 use Rattle.ct_walk.specs.Moves.{Follows}
-use Rattle.ct_checker.specs.Ledgers.{LedgerEntryValue, coprime, walks, LedgerValue}
+use Rattle.ct_ledger.specs.declared.entries.LedgerEntry.{LedgerEntry}
+use Rattle.ct_ledger.specs.declared.entries.LedgerEntry.TheVariants as entry
+use Rattle.ct_ledger.specs.Parts.{LedgerParts}
 
-abbrev pub job_of : LedgerEntryValue → Job
-job_of (coprime j) = j
-job_of (walks j first second) = j
+-- the moves as moves
+abbrev pub moves_of : LedgerParts → List Binomial
+moves_of l = map (λ m. record { head = m.0; tail = m.1 }) l.moves
+
+abbrev pub job_of : LedgerEntry → Job
+job_of (entry.Coprime j) = j
+job_of (entry.Walks j first second) = j
 
 -- a move of a ledger of grade g
 pub record IsLedgerMove (i : Problem) (g : ℕ) (m : Binomial) : Type 0 where
@@ -25,15 +31,15 @@ pub record AreWalks (i : Problem) (ms : List Binomial) (j : Job) (first second :
   pub second_steps : Follows ms (second_end_of i ms j) second point
 
 -- what an entry says is so
-abbrev pub IsEntryRight : Problem → List Binomial → LedgerEntryValue → Type 0
-IsEntryRight i ms (coprime j) = IsCoprime ms j
-IsEntryRight i ms (walks j first second) = (IsCoprime ms j → ⊥) × AreWalks i ms j first second
+abbrev pub IsEntryRight : Problem → List Binomial → LedgerEntry → Type 0
+IsEntryRight i ms (entry.Coprime j) = IsCoprime ms j
+IsEntryRight i ms (entry.Walks j first second) = (IsCoprime ms j → ⊥) × AreWalks i ms j first second
 
 -- the size is the instance's, the moves are moves of at most the grade, the entries are all their jobs of at most the
 -- grade, in order and each once, and each says what is so
-pub record IsAccepted (i : Problem) (l : LedgerValue) : Type 0 where
+pub record IsAccepted (i : Problem) (l : LedgerParts) : Type 0 where
   pub rows : l.rows ≡ i.rows
   pub columns : l.columns ≡ column_count i
-  pub moves : All (IsLedgerMove i l.grade) l.moves
-  pub jobs : map job_of l.entries ≡ jobs_up_to i l.moves l.grade
-  pub right : All (IsEntryRight i l.moves) l.entries
+  pub moves : All (IsLedgerMove i l.grade) (moves_of l)
+  pub jobs : map job_of l.entries ≡ jobs_up_to i (moves_of l) l.grade
+  pub right : All (IsEntryRight i (moves_of l)) l.entries

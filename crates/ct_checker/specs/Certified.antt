@@ -4,22 +4,24 @@ use Rattle.ct_instance.specs.Instance.{Problem, column_count}
 use Rattle.ct_instance.specs.TestSet.{Binomial}
 use Rattle.ct_instance.specs.Walk.{IsWalk}
 use Rattle.ct_instance.specs.Jobs.{first_end_of, second_end_of, IsCoprime, jobs_up_to}
-use Rattle.ct_checker.specs.Ledgers.{LedgerEntryValue, coprime, walks, LedgerValue}
-use Rattle.ct_checker.specs.Accepted.{job_of}
+use Rattle.ct_ledger.specs.declared.entries.LedgerEntry.{LedgerEntry}
+use Rattle.ct_ledger.specs.declared.entries.LedgerEntry.TheVariants as entry
+use Rattle.ct_ledger.specs.Parts.{LedgerParts}
+use Rattle.ct_checker.specs.Accepted.{moves_of, job_of}
 
 -- the steps are the walk of p by the list
 abbrev pub IsWalkOf : List Binomial → List ℕ → List (ℕ × ℕ) → Type 0
 IsWalkOf ms p steps = (end : List ℕ) × IsWalk ms p steps end
 
-abbrev pub IsCertifiedEntry : Problem → List Binomial → LedgerEntryValue → Type 0
-IsCertifiedEntry i ms (coprime j) = IsCoprime ms j
-IsCertifiedEntry i ms (walks j first second) = (IsCoprime ms j → ⊥) × IsWalkOf ms (first_end_of i ms j) first × IsWalkOf ms (second_end_of i ms j) second
+abbrev pub IsCertifiedEntry : Problem → List Binomial → LedgerEntry → Type 0
+IsCertifiedEntry i ms (entry.Coprime j) = IsCoprime ms j
+IsCertifiedEntry i ms (entry.Walks j first second) = (IsCoprime ms j → ⊥) × IsWalkOf ms (first_end_of i ms j) first × IsWalkOf ms (second_end_of i ms j) second
 
 -- the ledger of these moves up to the grade g
-pub record IsCertified (i : Problem) (ms : List Binomial) (g : ℕ) (l : LedgerValue) : Type 0 where
+pub record IsCertified (i : Problem) (ms : List Binomial) (g : ℕ) (l : LedgerParts) : Type 0 where
   pub rows : l.rows ≡ i.rows
   pub columns : l.columns ≡ column_count i
   pub grade : l.grade ≡ g
-  pub moves : l.moves ≡ ms
+  pub moves : moves_of l ≡ ms
   pub jobs : map job_of l.entries ≡ jobs_up_to i ms g
   pub entries : All (IsCertifiedEntry i ms) l.entries

@@ -1,6 +1,6 @@
-pub mod Ledgers
 pub mod Accepted
 pub mod Refusals
 pub mod Certified
 pub mod JobList
+pub mod Checking
 pub mod Laws

@@ -13,8 +13,10 @@ use Rattle.ct_instance.specs.Walk.{moved}
 use Rattle.ct_instance.specs.Jobs.{the_move, first_end_of, second_end_of, jobs_up_to}
 use Rattle.ct_checker.specs.declared.verdicts.Reason.{Reason}
 use Rattle.ct_checker.specs.declared.verdicts.Reason.TheVariants.{Size, Grade, Degree, Order, Entry, Coprime, Step, End}
-use Rattle.ct_checker.specs.Ledgers.{LedgerEntryValue, coprime, walks, LedgerValue}
-use Rattle.ct_checker.specs.Accepted.{job_of}
+use Rattle.ct_ledger.specs.declared.entries.LedgerEntry.{LedgerEntry}
+use Rattle.ct_ledger.specs.declared.entries.LedgerEntry.TheVariants as entry
+use Rattle.ct_ledger.specs.Parts.{LedgerParts}
+use Rattle.ct_checker.specs.Accepted.{moves_of, job_of}
 
 abbrev pub same_numbers : List ℕ → List ℕ → Bool
 same_numbers p q = pointwise nat_eq p q
@@ -53,13 +55,13 @@ walks_reason (Some p) None = Some Step
 walks_reason (Some p) (Some q) = cond (same_numbers p q) None (Some End)
 
 -- what is wrong with an entry's words on its job
-abbrev pub words_reason : Problem → List Binomial → LedgerEntryValue → Option Reason
-words_reason i ms (coprime j) = cond (is_coprime ms j) None (Some Coprime)
-words_reason i ms (walks j first second) =
+abbrev pub words_reason : Problem → List Binomial → LedgerEntry → Option Reason
+words_reason i ms (entry.Coprime j) = cond (is_coprime ms j) None (Some Coprime)
+words_reason i ms (entry.Walks j first second) =
     cond (is_coprime ms j) (Some Coprime) (walks_reason (end_of_steps ms (first_end_of i ms j) first) (end_of_steps ms (second_end_of i ms j) second))
 
 -- what is wrong with an entry where this job is next
-abbrev pub entry_reason : Problem → List Binomial → Job → LedgerEntryValue → Option Reason
+abbrev pub entry_reason : Problem → List Binomial → Job → LedgerEntry → Option Reason
 entry_reason i ms j e = cond (same_job j (job_of e)) (words_reason i ms e) (Some Entry)
 
 -- the first refused line: of the moves that begin in line n
@@ -68,17 +70,17 @@ refused_move i g n [] = None
 refused_move i g n (m ∷ ms) = option_or (option_map (λ r. (n, r)) (move_reason i g m)) (refused_move i g (n + 1) ms)
 
 -- of the entries that begin in line n, where these jobs are next, and of the line after them
-abbrev pub refused_entry : Problem → List Binomial → ℕ → List Job → List LedgerEntryValue → Option (ℕ × Reason)
+abbrev pub refused_entry : Problem → List Binomial → ℕ → List Job → List LedgerEntry → Option (ℕ × Reason)
 refused_entry i ms n [] [] = None
 refused_entry i ms n (j ∷ js) [] = Some (n, Entry)
 refused_entry i ms n [] (e ∷ es) = Some (n, Entry)
 refused_entry i ms n (j ∷ js) (e ∷ es) = option_or (option_map (λ r. (n, r)) (entry_reason i ms j e)) (refused_entry i ms (n + 1) js es)
 
-abbrev pub refused_size : Problem → LedgerValue → Option (ℕ × Reason)
+abbrev pub refused_size : Problem → LedgerParts → Option (ℕ × Reason)
 refused_size i l = cond (nat_eq l.rows i.rows && nat_eq l.columns (column_count i)) None (Some (2, Size))
 
 -- of the whole ledger
-abbrev pub first_refusal_of : Problem → LedgerValue → Option (ℕ × Reason)
+abbrev pub first_refusal_of : Problem → LedgerParts → Option (ℕ × Reason)
 first_refusal_of i l =
-    option_or (refused_size i l) (option_or (refused_move i l.grade 4 l.moves)
-    (refused_entry i l.moves (4 + length l.moves) (jobs_up_to i l.moves l.grade) l.entries))
+    option_or (refused_size i l) (option_or (refused_move i l.grade 4 (moves_of l))
+    (refused_entry i (moves_of l) (4 + length l.moves) (jobs_up_to i (moves_of l) l.grade) l.entries))

@@ -7,6 +7,9 @@
 
 mod job_list;
 pub mod laws;
+mod ledger_entries;
+mod ledger_moves;
+mod stops;
 mod verdicts;
 
-pub use verdicts::Reason;
+pub use verdicts::{Reason, Verdict};

@@ -1,4 +1,8 @@
 //! What a check of a ledger says.
+ghost use Rattle.std.specs.Prelude.{◌≡◌};
+ghost use Rattle.ct_checker.specs.Checking.{reason_for};
+
+use ct_walk::MoveFault;
 
 /// Why a line of a ledger is refused.
 #[derive(Clone, Copy, Debug, PartialEq, Eq)]
@@ -19,4 +23,24 @@ pub enum Reason {
     Step,
     /// The two walks end at different points.
     End,
+}
+
+/// The verdict on a ledger.
+#[derive(Clone, Copy, Debug, PartialEq, Eq)]
+pub enum Verdict {
+    /// It is accepted: its grade, and how many moves it has.
+    Accepted { grade: u64, moves: u32 },
+    /// The first line that is refused, from 1, and why.
+    Refused { line: u64, reason: Reason },
+}
+
+// Why a move with this fault is refused.
+pub fn reason_of(fault: MoveFault) -> Reason
+    ensures { result ≡ reason_for fault }
+{
+    match fault {
+        MoveFault::Grade => Reason::Grade,
+        MoveFault::Degree => Reason::Degree,
+        MoveFault::Order => Reason::Order,
+    }
 }

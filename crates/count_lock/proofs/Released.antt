@@ -1,11 +1,10 @@
 -- What a pass has after its release.
 use Rattle.std.proofs.Common.{◌≡◌, ℕ, List, [], ◌∷◌, length, slice_index, drop, refl, ap, ◌∙◌, arith, Option, Some, None}
 use Rattle.std.specs.Prelude.{IsSomeAnd}
-use Rattle.atomic_table.specs.Table.{Me, rest}
+use Rattle.atomic_table.specs.Table.{Me}
 use Rattle.count_lock.specs.declared.note.Note.{Note}
 use Rattle.count_lock.specs.Pairs.{recounted}
-use Rattle.count_lock.proofs.Steps.{exchanges_in}
-use Rattle.count_lock.specs.Told.{releases, carried_with}
+use Rattle.count_lock.specs.Told.{releases}
 
 pub some_and : {A : Type 0} (o : Option A) (P : A → Type 0) → IsSomeAnd o P → (a : A) × (o ≡ Some a) × P a
 some_and None P h = absurd h
@@ -25,10 +24,10 @@ module _ {V : Type 0} where
   freed note number count = record note { pairs = (number, count) ∷ []; held = None }
 
   -- the exchange in and the release together, for a pass with one pair
-  pub unlocked : (counts_of : V → List ℕ) (me swapped after : Me (Option V) (Note V)) (number count : ℕ) (held : List ℕ) (value : V) → me.1 ≡ carried_with me.0.held → me.0.pairs ≡ (number, count) ∷ drop 1 me.0.pairs
-      → length me.0.pairs ≡ 1 → me.0.held ≡ Some held → swapped ≡ (me.0, (0, Some value) ∷ rest me.1) → ((v : V) → swapped.1 ≡ (0, Some v) ∷ [] → after ≡ (releases swapped.0 (counts_of v), []))
+  pub unlocked : (counts_of : V → List ℕ) (me swapped after : Me (Option V) (Note V)) (number count : ℕ) (value : V) → me.0.pairs ≡ (number, count) ∷ drop 1 me.0.pairs → length me.0.pairs ≡ 1
+      → swapped ≡ (me.0, (0, Some value) ∷ []) → ((v : V) → swapped.1 ≡ (0, Some v) ∷ [] → after ≡ (releases swapped.0 (counts_of v), []))
       → after ≡ (freed me.0 number (slice_index (counts_of value) number), [])
-  unlocked counts_of me swapped after number count held value carried first single holds exchanged released =
-      released value (exchanges_in me.1 swapped.1 me.0.held held value (ap (λ (m : Me (Option V) (Note V)). m.1) exchanged) carried holds)
+  unlocked counts_of me swapped after number count value first single exchanged released =
+      released value (ap (λ (m : Me (Option V) (Note V)). m.1) exchanged)
       ∙ (ap (λ (m : Me (Option V) (Note V)). (releases m.0 (counts_of value), [])) exchanged
       ∙ ap (λ (l : List (ℕ × ℕ)). (record me.0 { pairs = l; held = None }, [])) (one_recounted me.0.pairs (counts_of value) number count first single))

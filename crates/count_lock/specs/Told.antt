@@ -11,6 +11,11 @@ abbrev pub Fits : Option (List ℕ) → ℕ → Type 0
 Fits None number = Unit {0}
 Fits (Some counts) number = number < length counts
 
+-- a seat at the table of a lock: what its pass knows, and the slots in its hand
+pub record SeatSight (V : Type 0) : Type 0 where
+  pub table_id : TableId
+  pub me : Me (Option V) (Note V)
+
 module _ {V : Type 0} where
   abbrev pub sight_of : TableId → Note V → LockSight V
   sight_of lock note = record { lock = lock; first = note.first; pairs = note.pairs; shown = note.shown; held = note.held }

@@ -1,4 +1,4 @@
-// Values that count something for each pass.
+//! Values that count something for each pass.
 ghost use Rattle.std.specs.Prelude.{◌≡◌, ◌^◌, ◌<◌, ℕ, List, length, slice_index};
 
 /// A value with a list of counts, one for each pass of its lock. It belongs to one name, and shows some numbers.

@@ -6,6 +6,7 @@
 //! the passes and the counts of the value agree whenever the lock is free, with nothing compared at run time:
 //! who closes the lock with all passes has a value with just the counts that the passes have.
 //! A pass also knows what each value showed that it got.
+//! Only the module `table` touches the shared word and slot, by one function for each kind of step.
 //! The rule of the lock holds between any two atomic steps: `specs/Count.antt` states it, and
 //! `proofs/Steps.antt` has a lemma for each kind of step.
 #![tactic(auto)]
@@ -15,6 +16,7 @@ mod lock;
 mod note;
 mod pass;
 mod rule;
+mod table;
 #[cfg(test)]
 mod tests;
 

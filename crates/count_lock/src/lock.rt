@@ -1,31 +1,25 @@
-// The lock.
+//! The lock.
 ghost use Rattle.std.specs.Prelude.{◌≡◌, ◌^◌, ◌<◌, length, All, IfOk};
 
 use crate::counted::Counted;
-use crate::note::Note;
 use crate::pass::LockPass;
-use crate::rule::{Counts, Cut, Merge, Release, Take};
-use atomic_table::{Refused, Seat, Table};
+use crate::table::{LockSeat, LockTable};
 use std::alloc::{AllocError, Global};
 use std::marker::Model;
-use std::snapshot::Snapshot;
 use std::sync::Wait;
 
 /// A lock round one value. One that is dropped drops the value.
 #[derive(Drop)]
 pub struct CountLock<V: Counted + Drop> {
-    table: Table<Option<V>, Note<V>, (Snapshot<V>, u32), Counts<V>, Global>,
+    table: LockTable<V>,
 }
 
 impl<V: Counted + Drop> Model for CountLock<V> {
-    ghost use Rattle.std.specs.Prelude.{◌≡◌};
     ghost use Rattle.count_lock.specs.Sight.{LockPlace};
 
     ghost Value = { LockPlace V };
 
-    ghost view = { λ c. record { lock = c.table.shared.table_id; first = c.table.shared.key.0.value; passes = c.table.shared.key.1 } };
-
-    ghost invariant = { λ c. (c.table.shared.table_id.words ≡ 1) × (c.table.shared.table_id.slots ≡ 1) };
+    ghost view = { λ c. c.table };
 }
 
 impl<V: Counted + Drop> CountLock<V> {
@@ -50,23 +44,16 @@ impl<V: Counted + Drop> CountLock<V> {
     {
         let counts = counts_in(alloc, &value, passes)?;
         let dealt = Vec::with_capacity(alloc, passes as usize)?;
-        let about = (Snapshot::of(&value), passes);
-        let mut slots = Vec::with_capacity(alloc, 1)?;
-        slots.push_reserved(Some(value));
-        match Table::new(alloc, &[0], slots, &about) {
-            Ok((table, seat)) => {
-                let lock = CountLock { table };
-                let made = lock.deal(seat, counts.as_slice(), passes - 1, dealt);
-                Ok((lock, made))
-            }
-            Err(Refused { slots: _ }) => Err(AllocError),
-        }
+        let (table, seat) = LockTable::open(alloc, value, passes)?;
+        let lock = CountLock { table };
+        let made = lock.deal(seat, counts.as_slice(), passes - 1, dealt);
+        Ok((lock, made))
     }
 
     // The passes of the opening. The first seat gives its last pair away until it has one.
     fn deal(
         &self,
-        mut seat: Seat<Option<V>, Note<V>>,
+        mut seat: LockSeat<V>,
         counts: &[u64],
         last: u32,
         mut dealt: Vec<LockPass<V>>,
@@ -79,7 +66,7 @@ impl<V: Counted + Drop> CountLock<V> {
     {
         let mut number = last;
         while number > 0 {
-            let other = self.table.shared.split_seat::<Cut>(&mut seat);
+            let other = self.table.split(&mut seat);
             let count = counts[number as usize];
             dealt.push_reserved(LockPass {
                 seat: other,
@@ -99,13 +86,14 @@ impl<V: Counted + Drop> CountLock<V> {
     }
 
     /// Takes the lock as a test-and-set lock does, by one `fetch_or` at a time until it has it, and so may wait for
-    /// ever. It takes no memory.
+    /// ever. The pass's number is one of the value's counts. It takes no memory.
     pub fn lock<R: Wait>(&self, rt: &R, pass: &mut LockPass<V>) -> V
         requires own { IsOfLock self.now pass.old }
         requires idle { pass.old.held ≡ None }
         ensures held { pass.new ≡ record pass.old { shown = pass.old.shown ++ V.shows result ∷ []; held = Some (V.counts_of result) } }
         ensures name { V.name_of result ≡ V.name_of self.now.first }
         ensures counts { Agree (V.counts_of result) pass.old.pairs }
+        ensures number { first_number pass.old.pairs < length (V.counts_of result) }
     {
         for _ in rt.forever() {
             if let Some(value) = self.try_lock(pass) {
@@ -121,15 +109,13 @@ impl<V: Counted + Drop> CountLock<V> {
         requires idle { pass.old.held ≡ None }
         ensures held { IfSome result (λ v. pass.new ≡ record pass.old { shown = pass.old.shown ++ V.shows v ∷ []; held = Some (V.counts_of v) }) }
         ensures value { IfSome result (λ v. (V.name_of v ≡ V.name_of self.now.first) × Agree (V.counts_of v) pass.old.pairs) }
+        ensures number { IfSome result (λ v. first_number pass.old.pairs < length (V.counts_of v)) }
         ensures missed { IfNone result (pass.new ≡ pass.old) }
     {
-        if self.table.shared.fetch_or::<Take<V>>(&mut pass.seat, 0, 1) != 0 {
+        if self.table.take(&mut pass.seat) != 0 {
             return None;
         }
-        let Some(value) = self.table.shared.exchange(&mut pass.seat, 0, None) else {
-            unreachable!()
-        };
-        Some(value)
+        Some(self.table.exchange_out(&mut pass.seat))
     }
 
     /// Frees the lock, with this value, by one swap. The pass then has the value's count of its number.
@@ -142,8 +128,8 @@ impl<V: Counted + Drop> CountLock<V> {
         ensures { let number = first_number pass.old.pairs in pass.new ≡ record pass.old { pairs = (number, slice_index (V.counts_of value) number) ∷ []; held = None } }
     {
         pass.count = value.count(pass.number);
-        self.table.shared.exchange(&mut pass.seat, 0, Some(value));
-        self.table.shared.swap::<Release<V>>(&mut pass.seat, 0, 0);
+        self.table.exchange_in(&mut pass.seat, value);
+        self.table.release(&mut pass.seat);
     }
 
     /// The pass takes over the pairs of the other, which is spent. One atomic step, with no memory.
@@ -157,7 +143,7 @@ impl<V: Counted + Drop> CountLock<V> {
             number: _,
             count: _,
         } = other;
-        self.table.shared.join_seat::<Merge>(&mut pass.seat, seat);
+        self.table.join(&mut pass.seat, seat);
     }
 
     /// Ends the lock and gives the value out. Only who has every pass, joined into one, can call it.
@@ -174,11 +160,7 @@ impl<V: Counted + Drop> CountLock<V> {
             count: _,
         } = pass;
         let CountLock { table } = self;
-        let mut closed = table.close_with(seat);
-        let home = closed.take(0);
-        closed.free();
-        let Some(value) = home else { unreachable!() };
-        value
+        table.close(seat)
     }
 }
 

@@ -1,4 +1,4 @@
-// What a seat at the table knows.
+//! What a seat at the table knows.
 use std::collections::LinkedList;
 
 /// The view of a pass. No value of it is made.

@@ -1,12 +1,11 @@
-// A pass of a lock.
-use crate::note::Note;
-use atomic_table::Seat;
+//! A pass of a lock.
+use crate::table::LockSeat;
 use std::marker::Model;
 
 /// What one thread steps with. It can't be copied, and only a lock makes one; use it with that lock alone.
 #[derive(Drop)]
 pub struct LockPass<V> {
-    pub(crate) seat: Seat<Option<V>, Note<V>>,
+    pub(crate) seat: LockSeat<V>,
     pub(crate) number: u32,
     pub(crate) count: u64,
 }

@@ -1,4 +1,4 @@
-// The rule of the table, and what each kind of step tells.
+//! The rule of the table, and what each kind of step tells.
 use crate::counted::Counted;
 use crate::note::Note;
 use atomic_table::{Join, Play, Split, TableRule};

@@ -1,3 +1,4 @@
+//! Two threads that count under one lock.
 ghost use Rattle.std.specs.Prelude.{◌≡◌, ◌^◌, ◌<◌, [], ◌∷◌, length, slice_index, None};
 ghost use Rattle.count_lock.specs.Pairs.{GrowsAt, first_number};
 ghost use Rattle.count_lock.specs.Sight.{IsOfLock};

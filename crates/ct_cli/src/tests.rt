@@ -1,3 +1,4 @@
+//! Runs on real files, with words and an output that a test gives.
 use super::*;
 use std::alloc::Global;
 use std::env::FillError;

@@ -1,6 +1,7 @@
 -- Bounds on the grade of a pair and on the coordinates of its ends.
 use Rattle.std.proofs.Common.{ℕ, ◌+◌, ◌-◌, ◌≤◌, ◌≡◌, List, [], length, map, get_or, sym, ap, subst, ◌∙◌, arith, refl, Bool, ◌↔◌, IsTrue, ap₂, zero, suc}
 use Rattle.std.proofs.lemmas.List.{get_or_default, get_or-map}
+use Rattle.ct_vectors.specs.declared.limits.TheConstants.{JOB_GRADE_LIMIT}
 use Rattle.ct_vectors.specs.Vectors.{total, add, lcm, Disjoint, disjoint}
 use Rattle.ct_vectors.proofs.Sums.{length-add_same}
 use Rattle.ct_vectors.proofs.Divisors.{Divides-add, Divides-add_left, Divides-lcm, lcm-divides, length-lcm, Disjoint-from_test, test_from_Disjoint}
@@ -35,7 +36,7 @@ heads_wide i m n a b = a.head ∙ sym b.head
 pub lcm_is_point : (i : Problem) (m n : Binomial) → IsMove i m → IsMove i n → IsPoint i (lcm m.head n.head)
 lcm_is_point i m n a b = omega (arith, length-lcm m.head n.head, a.head, b.head)
 
-pub pair_grade_limit : (i : Problem) (m n : Binomial) → IsSmallMove i m → IsSmallMove i n → grade_of i.columns (lcm m.head n.head) ≤ 32000000000000
+pub pair_grade_limit : (i : Problem) (m n : Binomial) → IsSmallMove i m → IsSmallMove i n → grade_of i.columns (lcm m.head n.head) ≤ JOB_GRADE_LIMIT
 pair_grade_limit i m n a b =
     let g : grade_of i.columns (lcm m.head n.head) ≤ grade_of i.columns m.head + grade_of i.columns n.head = grade-lcm i.columns m.head n.head (heads_wide i m n a.move b.move) in
     omega (arith, a.grade, b.grade)
@@ -51,7 +52,7 @@ leaves l h a b some-a within-a some-b within-b p e =
     let y : IsSmallMove i n = small_move l h b some-b within-b in
     let both : IsPoint i (lcm m.head n.head) = lcm_is_point i m n x.move y.move in
     let f : IsInFiber i (degree_of i.columns (lcm m.head n.head)) (left_of m n) = swapped_in_fiber i m x.move (lcm m.head n.head) both (Divides-lcm m.head n.head) in
-    let g : grade_of i.columns (lcm m.head n.head) ≤ 32000000000000 = pair_grade_limit i m n x y in
+    let g : grade_of i.columns (lcm m.head n.head) ≤ JOB_GRADE_LIMIT = pair_grade_limit i m n x y in
     record {
       place_width = e ∙ sym x.move.head;
       tail_width = x.move.tail ∙ sym x.move.head;

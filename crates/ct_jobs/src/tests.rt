@@ -7,6 +7,7 @@ ghost use Rattle.ct_instance.specs.Jobs.{IsJob};
 use crate::{Addition, Buckets, coprime, ends, ends_into, job_grade};
 use ct_instance::{Instance, Job};
 use ct_point::Point;
+use ct_vectors::limits::{GRADE_LIMIT, MOVE_LIMIT, RIGHT_LIMIT};
 use ct_walk::{Move, Moves};
 use std::alloc::Global;
 use std::process::Abort;
@@ -23,26 +24,24 @@ const MOVES: [([u64; 3], [u64; 3]); 5] = [
 
 fn point(rt: &impl Abort, alloc: Global, inst: &Instance, c: [u64; 3]) -> Point
     ensures point { IsPoint inst.now result }
-    ensures limit { All (λ x. x ≤ 1000000000000) result }
+    ensures limit { All (λ x. x ≤ RIGHT_LIMIT) result }
 {
     assert!(rt; inst.rows() == 1 && inst.columns() == 2);
-    assert!(rt;
-        c[0] <= 1_000_000_000_000 && c[1] <= 1_000_000_000_000 && c[2] <= 1_000_000_000_000
-    );
+    assert!(rt; c[0] <= RIGHT_LIMIT && c[1] <= RIGHT_LIMIT && c[2] <= RIGHT_LIMIT);
     Point::from_slice(alloc, &c).expect(rt, "a point")
 }
 
 fn add(rt: &impl Abort, alloc: Global, moves: &mut Moves, inst: &Arc<Instance>, k: usize)
     requires index { k < 5 }
     requires instance { moves.old.instance ≡ arc_value inst.now }
-    requires room { length moves.old.moves < 4096 }
+    requires room { length moves.old.moves < MOVE_LIMIT }
     ensures instance { moves.new.instance ≡ arc_value inst.now }
     ensures more { length moves.new.moves ≡ length moves.old.moves + 1 }
 {
     let (head, tail) = MOVES[k];
     let head = point(rt, alloc, inst, head);
     let tail = point(rt, alloc, inst, tail);
-    let made = Move::new(inst, 16_000_000_000_000, head, tail).expect(rt, "a move");
+    let made = Move::new(inst, GRADE_LIMIT, head, tail).expect(rt, "a move");
     match moves.push(made) {
         Ok(()) => {}
         Err(_) => panic!(rt; "no room"),

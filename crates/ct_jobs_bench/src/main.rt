@@ -11,14 +11,15 @@ mod synthetic;
 
 use anyhow::{Context, Result, ensure};
 use ct_jobs::{Addition, Buckets};
+use ct_vectors::limits::{COLUMN_LIMIT, MOVE_LIMIT};
 use std::alloc::Global;
 use std::env;
 use synthetic::{instance_of_ones, moves_of};
 
 // How many jobs the last grade has.
 fn last_bucket(alloc: Global, count: u32, columns: u32) -> Result<usize>
-    requires moves { count ≤ 4096 }
-    requires width { columns ≤ 64 }
+    requires moves { count ≤ MOVE_LIMIT }
+    requires width { columns ≤ COLUMN_LIMIT }
 {
     let inst = instance_of_ones(alloc, columns)?;
     let moves = moves_of(alloc, &inst, count)?;
@@ -47,8 +48,14 @@ fn main(rt: HostRuntime) -> Result<()> {
     let _program = words.next();
     let count = number_of(words.next())?;
     let columns = number_of(words.next())?;
-    ensure!(count >= 1 && count <= 4096, "COUNT is 1 to 4096");
-    ensure!(columns >= 1 && columns <= 64, "COLUMNS is 1 to 64");
+    ensure!(
+        count >= 1 && count as usize <= MOVE_LIMIT,
+        "COUNT is 1 to {MOVE_LIMIT}"
+    );
+    ensure!(
+        columns >= 1 && columns as usize <= COLUMN_LIMIT,
+        "COLUMNS is 1 to {COLUMN_LIMIT}"
+    );
     let jobs = last_bucket(alloc, count, columns)?;
     println!(rt; "moves {count} jobs of the last grade {jobs}")?;
     Ok(())

@@ -6,16 +6,17 @@ ghost use Rattle.ct_walk.specs.Moves.{IsSmallMove};
 use anyhow::{Result, anyhow, ensure};
 use ct_instance::Instance;
 use ct_point::Point;
+use ct_vectors::limits::{COLUMN_LIMIT, GRADE_LIMIT, MOVE_LIMIT};
 use ct_walk::{Move, Moves};
 use std::alloc::Global;
 use std::sync::Arc;
 
 /// One row and so many columns, 1 to 64, with all entries and costs 1.
 pub fn instance_of_ones(alloc: Global, columns: u32) -> Result<Arc<Instance>>
-    requires { columns ≤ 64 }
+    requires { columns ≤ COLUMN_LIMIT }
 {
-    let ones = [1; 64];
-    let costs = [1; 64];
+    let ones = [1; COLUMN_LIMIT];
+    let costs = [1; COLUMN_LIMIT];
     let n = columns as usize;
     match Instance::new(alloc, 1, columns, &ones[..n], &costs[..n]) {
         Ok(inst) => Ok(Arc::new(alloc, inst)?),
@@ -25,7 +26,7 @@ pub fn instance_of_ones(alloc: Global, columns: u32) -> Result<Arc<Instance>>
 
 // Takes k artificials away and adds k of the first column.
 fn exchange(alloc: Global, inst: &Instance, k: u32) -> Result<Move>
-    requires { k ≤ 4096 }
+    requires { k ≤ MOVE_LIMIT }
     ensures { IfOk result (λ m. IsSmallMove inst.now m) }
 {
     ensure!(inst.rows() == 1, "another instance");
@@ -35,7 +36,7 @@ fn exchange(alloc: Global, inst: &Instance, k: u32) -> Result<Move>
     head.set(n, k);
     let mut tail = Point::zero(alloc, n + 1)?;
     tail.set(0, k);
-    match Move::new(inst, 16_000_000_000_000, head, tail) {
+    match Move::new(inst, GRADE_LIMIT, head, tail) {
         Ok(made) => Ok(made),
         Err(fault) => Err(anyhow!("no move: {fault:?}")),
     }
@@ -43,7 +44,7 @@ fn exchange(alloc: Global, inst: &Instance, k: u32) -> Result<Move>
 
 /// So many moves: the k-th exchanges k artificials for k of the first column.
 pub fn moves_of(alloc: Global, inst: &Arc<Instance>, count: u32) -> Result<Moves>
-    requires { count ≤ 4096 }
+    requires { count ≤ MOVE_LIMIT }
     ensures { IfOk result (λ l. l.instance ≡ arc_value inst.now) }
 {
     let mut moves = Moves::new(alloc, Arc::try_clone(inst)?);

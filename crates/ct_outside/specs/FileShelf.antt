@@ -7,4 +7,4 @@ use Rattle.ct_outside.specs.declared.fetch_fault.FetchFault.TheVariants.{Failed,
 -- want of memory is no fault of the file
 abbrev pub fault_of_kind : ErrorKind → FetchFault
 fault_of_kind OutOfMemory = Memory
-fault_of_kind other = Failed
+fault_of_kind _ = Failed

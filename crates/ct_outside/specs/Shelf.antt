@@ -36,3 +36,9 @@ failed_after failed name (Ok _) = failed
 failed_after failed name (Err Failed) = failed ++ name ∷ []
 failed_after failed name (Err TooLong) = failed
 failed_after failed name (Err Memory) = failed
+
+-- a call on a shelf changes no file, lowers no count, and leaves the counts of all names that it doesn't ask for
+pub record KeepsShelf (told_before told_now : List ℕ → Told) (before now : List ℕ → ℕ) (IsAsked : List ℕ → Type 0) : Type 0 where
+  pub kept : told_now ≡ told_before
+  pub later : (name : List ℕ) → before name ≤ now name
+  pub others : (name : List ℕ) → ¬ (IsAsked name) → now name ≡ before name

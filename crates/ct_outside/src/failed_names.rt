@@ -1,4 +1,4 @@
-// The names whose fetch has failed, each as often as it failed.
+//! The names whose fetch has failed, each as often as it failed.
 ghost use Rattle.std.specs.Prelude.{◌≡◌, ◌-◌, [], ◌∷◌, ◌++◌, length, take, List, ℕ, map, OnOk, OnErr, string_bytes};
 
 use std::alloc::{AllocError, Global};

@@ -1,4 +1,4 @@
-// Why a fetch has no whole file to give.
+//! Why a fetch has no whole file to give.
 ghost use Rattle.std.specs.Prelude.{◌≡◌};
 ghost use Rattle.ct_outside.specs.declared.fetch_fault.FetchFault.TheVariants.{Memory};
 

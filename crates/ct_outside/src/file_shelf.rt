@@ -4,7 +4,7 @@ ghost use Rattle.std.specs.Io.KnownBytes.{Consumes, IsAtEnd};
 ghost use Rattle.std.specs.IoError.{error_kind};
 ghost use Rattle.ct_outside.specs.Faults.{count_of};
 ghost use Rattle.ct_outside.specs.FileShelf.{fault_of_kind};
-ghost use Rattle.ct_outside.specs.Shelf.{untold, Leaves, HasCause, failed_after};
+ghost use Rattle.ct_outside.specs.Shelf.{untold, Leaves, HasCause, KeepsShelf, failed_after};
 
 use crate::failed_names::FailedNames;
 use crate::{FetchFault, Shelf};
@@ -55,8 +55,7 @@ impl<'a, R: Files> Shelf for FileShelf<'a, R> {
     ) -> Result<(), FetchFault>
         ensures leaves { Leaves untold limit into.new.items result }
         ensures cause { HasCause (count_of self.old name.now) (count_of self.new name.now) result }
-        ensures later { (other : List ℕ) → count_of self.old other ≤ count_of self.new other }
-        ensures others { (other : List ℕ) → other ≢ name.now → count_of self.new other ≡ count_of self.old other }
+        ensures shelf { KeepsShelf (λ _. untold) (λ _. untold) (count_of self.old) (count_of self.new) (λ other. other ≡ name.now) }
         ensures after { self.new ≡ failed_after self.old name.now result }
     {
         into.clear();

@@ -1,7 +1,7 @@
-// Files in memory, whose fetch can be made to fail.
-ghost use Rattle.std.specs.Prelude.{◌≡◌, ◌≢◌, ◌≤◌, ◌++◌, ◌∷◌, [], ℕ, List, Some, OnOk, OnErr, if◌then◌else◌};
+//! Files in memory, whose fetch can be made to fail.
+ghost use Rattle.std.specs.Prelude.{◌≡◌, ◌≢◌, ◌++◌, ◌∷◌, [], ℕ, List, Some, OnOk, OnErr, if◌then◌else◌};
 ghost use Rattle.ct_outside.specs.Faults.{count_of};
-ghost use Rattle.ct_outside.specs.Shelf.{Leaves, HasCause, holds};
+ghost use Rattle.ct_outside.specs.Shelf.{Leaves, HasCause, KeepsShelf, holds};
 ghost use Rattle.ct_outside.specs.Memory.{IsUnlessMemory};
 ghost use Rattle.ct_outside.specs.MemShelf.{empty_shelf, told_of, fault_by, next_fault, after_fetch};
 ghost use Rattle.ct_outside.specs.MemFiles.{files_of};
@@ -80,9 +80,7 @@ impl Shelf for MemShelf {
     ) -> Result<(), FetchFault>
         ensures leaves { Leaves (told_of self.old.files name.now) limit into.new.items result }
         ensures cause { HasCause (count_of self.old.failed name.now) (count_of self.new.failed name.now) result }
-        ensures kept { told_of self.new.files ≡ told_of self.old.files }
-        ensures later { (other : List ℕ) → count_of self.old.failed other ≤ count_of self.new.failed other }
-        ensures others { (other : List ℕ) → other ≢ name.now → count_of self.new.failed other ≡ count_of self.old.failed other }
+        ensures shelf { KeepsShelf (told_of self.old.files) (told_of self.new.files) (count_of self.old.failed) (count_of self.new.failed) (λ other. other ≡ name.now) }
 
         // It fails where it is told to, and where there is no file of the name.
         ensures answer { IsUnlessMemory result (next_fault self.old name.now limit) }

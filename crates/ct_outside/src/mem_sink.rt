@@ -1,4 +1,4 @@
-// Bytes in memory, whose write can be short or made to fail.
+//! Bytes in memory, whose write can be short or made to fail.
 ghost use Rattle.std.specs.Prelude.{◌≡◌, ◌≤◌, ◌<◌, ◌++◌, ◌∷◌, [], ℕ, Some, length, vec_len, vec_capacity, ◌+◌, IfOk, OnOk, OnErr};
 ghost use Rattle.std.specs.Result.{result_ok};
 ghost use Rattle.std.specs.Io.KnownBytes.{WriteAppends};

@@ -1,6 +1,6 @@
-// Files by their names.
-ghost use Rattle.std.specs.Prelude.{◌≡◌, ◌≢◌, ◌≤◌, ℕ, List};
-ghost use Rattle.ct_outside.specs.Shelf.{Told, Leaves, HasCause};
+//! Files by their names.
+ghost use Rattle.std.specs.Prelude.{◌≡◌, ℕ, List};
+ghost use Rattle.ct_outside.specs.Shelf.{Told, Leaves, HasCause, KeepsShelf};
 
 use crate::FetchFault;
 use std::alloc::Global;
@@ -24,7 +24,5 @@ pub trait Shelf {
     ) -> Result<(), FetchFault>
         ensures leaves { Leaves (told self.old name.now) limit into.new.items result }
         ensures cause { HasCause (faults self.old name.now) (faults self.new name.now) result }
-        ensures kept { told self.new ≡ told self.old }
-        ensures later { (other : List ℕ) → faults self.old other ≤ faults self.new other }
-        ensures others { (other : List ℕ) → other ≢ name.now → faults self.new other ≡ faults self.old other };
+        ensures shelf { KeepsShelf (told self.old) (told self.new) (faults self.old) (faults self.new) (λ other. other ≡ name.now) };
 }

@@ -1,4 +1,4 @@
-// What takes bytes.
+//! What takes bytes.
 ghost use Rattle.std.specs.Prelude.{◌≤◌, ◌<◌, ℕ, List, Option, length, IfOk, OnErr};
 ghost use Rattle.std.specs.Io.KnownBytes.{WriteAppends};
 ghost use Rattle.ct_outside.specs.Faults.{Rose};

@@ -1,4 +1,4 @@
-// Standard output.
+//! Standard output.
 ghost use Rattle.std.specs.Prelude.{◌≡◌, ◌≤◌, ◌<◌, ℕ, None, length, is_ok, if◌then◌else◌, IfOk, OnErr};
 ghost use Rattle.std.specs.Io.KnownBytes.{WriteAppends};
 ghost use Rattle.ct_outside.specs.Faults.{Rose, one_more};

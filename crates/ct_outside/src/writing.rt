@@ -1,4 +1,4 @@
-// A whole text into a sink that takes it piece by piece.
+//! A whole text into a sink that takes it piece by piece.
 ghost use Rattle.std.specs.Prelude.{◌≤◌, OnOk, OnErr};
 ghost use Rattle.std.specs.Io.KnownBytes.{Appends};
 ghost use Rattle.ct_outside.specs.Faults.{Rose};

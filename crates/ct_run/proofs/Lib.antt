@@ -1,3 +1,4 @@
-pub mod Files
+pub mod Runs
+pub mod Endings
 pub mod TooLong
 mod Worked

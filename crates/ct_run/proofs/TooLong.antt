@@ -1,14 +1,31 @@
--- A file over its limit has that fault.
-use Rattle.std.proofs.Common.{◌≡◌, ℕ, ◌<◌, List, length, Err, refl}
-use Rattle.std.proofs.lemmas.Bool.{lt-ltb}
+-- A file over its limit has that fault, whatever of it was read past the limit.
+use Rattle.std.proofs.Common.{◌≡◌, ℕ, ◌+◌, ◌<◌, List, length, take, Result, Err, ⊎_elim, refl, ap, sym, ◌∙◌, arith, length-take}
+use Rattle.std.proofs.lemmas.Bool.{cases_lt, lt-ltb}
+use Rattle.std.proofs.lemmas.List.{take_all}
 use Rattle.ct_input.specs.declared.limits.TheConstants.{INSTANCE_FILE_LIMIT, SESSION_FILE_LIMIT}
+use Rattle.ct_input.specs.declared.fault.Fault.{Fault}
 use Rattle.ct_input.specs.declared.fault.Fault.TheVariants.{TooLong}
 use Rattle.ct_input.specs.Files.{instance_file, session_file}
 
-pub instance-too_long : (bytes : List ℕ) → INSTANCE_FILE_LIMIT < length bytes → instance_file bytes ≡ Err TooLong
+instance-too_long : (bytes : List ℕ) → INSTANCE_FILE_LIMIT < length bytes → instance_file bytes ≡ Err TooLong
 unfolding instance_file
 instance-too_long bytes long = rw (lt-ltb INSTANCE_FILE_LIMIT (length bytes) long) refl
 
-pub sessions-too_long : (m : ℕ) (bytes : List ℕ) → SESSION_FILE_LIMIT < length bytes → session_file m bytes ≡ Err TooLong
+sessions-too_long : (m : ℕ) (bytes : List ℕ) → SESSION_FILE_LIMIT < length bytes → session_file m bytes ≡ Err TooLong
 unfolding session_file
 sessions-too_long m bytes long = rw (lt-ltb SESSION_FILE_LIMIT (length bytes) long) refl
+
+-- what a file stands for that has a limit is told by the bytes up to the limit and one more
+front_tells : {A : Type 0} (value_of : List ℕ → Result A Fault) (limit : ℕ) → ((bytes : List ℕ) → limit < length bytes → value_of bytes ≡ Err TooLong) →
+    (bytes : List ℕ) → value_of (take (limit + 1) bytes) ≡ value_of bytes
+front_tells value_of limit long bytes =
+    ⊎_elim
+    (λ over. long (take (limit + 1) bytes) (omega (arith, length-take (limit + 1) bytes)) ∙ sym (long bytes over))
+    (λ within. ap value_of (take_all (limit + 1) bytes (omega arith)))
+    (cases_lt limit (length bytes))
+
+pub instance-front : (bytes : List ℕ) → instance_file (take (INSTANCE_FILE_LIMIT + 1) bytes) ≡ instance_file bytes
+instance-front = front_tells instance_file INSTANCE_FILE_LIMIT instance-too_long
+
+pub sessions-front : (m : ℕ) (bytes : List ℕ) → session_file m (take (SESSION_FILE_LIMIT + 1) bytes) ≡ session_file m bytes
+sessions-front m = front_tells (session_file m) SESSION_FILE_LIMIT (sessions-too_long m)

@@ -1,5 +1,5 @@
 -- The definitions on worked examples, by computation: coins of 3 and 5 at cost 2 and 3.
-use Rattle.std.proofs.Common.{pos, negsuc, ◌≡◌, ◌++◌, [], ◌∷◌, None, Some, refl, codes}
+use Rattle.std.proofs.Common.{pos, negsuc, ◌≡◌, ℕ, List, ◌++◌, [], ◌∷◌, Option, None, Some, Result, Ok, Err, refl, codes}
 use Rattle.std.specs.Fmt.{digits}
 use Rattle.ct_instance.specs.Instance.{Problem}
 use Rattle.ct_instance.specs.Fiber.{fiber_of, least_of}
@@ -9,8 +9,14 @@ use Rattle.ct_input.specs.declared.fault.TextReason.TheVariants.{ZeroColumn}
 use Rattle.ct_input.specs.declared.script.Request.TheVariants.{Ask, Solve}
 use Rattle.ct_input.specs.declared.script.Script.{Script}
 use Rattle.ct_run.specs.Report.{newline, line_text, report_text, answers_of}
-use Rattle.ct_run.specs.Words.{answer, command_of}
-use Rattle.ct_run.specs.Ending.{bad_instance}
+use Rattle.ct_outside.specs.Shelf.{Told, untold, absent, holds}
+use Rattle.ct_input.specs.declared.fault.Fault.{Fault}
+use Rattle.ct_input.specs.Files.{instance_file, session_file}
+use Rattle.ct_run.specs.declared.status.Status.TheVariants.{Usage}
+use Rattle.ct_run.specs.Words.{Command, answer, command_of}
+use Rattle.ct_run.specs.Outcome.{bad_instance, bad_sessions, answered, IsText, Wrote}
+use Rattle.ct_run.specs.Plan.{ends, by_value, sessions_plan, plan_of}
+use Rattle.ct_run.specs.Running.{HasBytes, Ends}
 
 abbrev coins : Problem
 coins = record { rows = 1; columns = (3 ∷ []) ∷ (5 ∷ []) ∷ []; cost_rows = (pos 2 ∷ pos 3 ∷ []) ∷ [] }
@@ -30,11 +36,11 @@ two_answers = refl
 no_phase : report_text (answers_of coins (record { phases = [] })) ≡ codes "report 1" ++ newline ++ codes "end" ++ newline
 no_phase = refl
 
-zero_column_line : (bad_instance (Text 5 3 ZeroColumn)).text ≡ codes "bad instance: line 5 column 3: zero column" ++ newline
+zero_column_line : IsText (bad_instance (Text 5 3 ZeroColumn)) (codes "bad instance: line 5 column 3: zero column" ++ newline)
 unfolding digits
 zero_column_line = refl
 
-too_long_line : (bad_instance TooLong).text ≡ codes "bad instance: too long" ++ newline
+too_long_line : IsText (bad_instance TooLong) (codes "bad instance: too long" ++ newline)
 too_long_line = refl
 
 three_words : command_of (codes "answer" ∷ codes "-" ∷ codes "S" ∷ []) ≡ Some (answer (codes "-") (codes "S"))
@@ -45,3 +51,26 @@ an_option = refl
 
 four_words : command_of (codes "answer" ∷ codes "K" ∷ codes "S" ∷ codes "S" ∷ []) ≡ None
 four_words = refl
+
+-- ---- the status Usage is that of words that are no command, and of no others
+
+of_bytes : (told : Told) (P : List ℕ → Type 0) (G : Type 0) → ((bytes : List ℕ) → P bytes → G) → HasBytes told P → G
+of_bytes untold P G f h = f h.0 h.1
+of_bytes absent P G f h = absurd h
+of_bytes (holds bytes) P G f h = f bytes h
+
+no_usage_by_sessions : (read : Result Script Fault) (i : Problem) (told : List ℕ → Told) (old new : Option (List ℕ)) →
+    Ends (by_value bad_sessions (λ script. ends (answered i script)) read) told (Wrote Usage old new) → ⊥
+no_usage_by_sessions (Ok script) i told old new wrote = cc
+no_usage_by_sessions (Err fault) i told old new wrote = cc
+
+no_usage : (read : Result Problem Fault) (sessions : List ℕ) (told : List ℕ → Told) (old new : Option (List ℕ)) →
+    Ends (by_value bad_instance (sessions_plan sessions) read) told (Wrote Usage old new) → ⊥
+no_usage (Ok i) sessions told old new wrote =
+    of_bytes (told sessions) _ ⊥ (λ bytes. no_usage_by_sessions (session_file i.rows bytes) i told old new) wrote
+no_usage (Err fault) sessions told old new wrote = cc
+
+usage_only : (command : Option Command) (told : List ℕ → Told) (old new : Option (List ℕ)) → Ends (plan_of command) told (Wrote Usage old new) → command ≡ None
+usage_only None told old new wrote = refl
+usage_only (Some (answer instance sessions)) told old new wrote =
+    absurd (of_bytes (told instance) _ ⊥ (λ bytes. no_usage (instance_file bytes) sessions told old new) wrote)

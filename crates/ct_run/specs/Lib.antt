@@ -1,5 +1,8 @@
 pub mod Report
 pub mod Words
+pub mod Commands
 pub mod Status
-pub mod Ending
-pub mod Reading
+pub mod Outcome
+pub mod Plan
+pub mod Running
+pub mod Stopping

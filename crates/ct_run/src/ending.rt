@@ -1,6 +1,7 @@
 //! How a run ends before it writes.
-ghost use Rattle.std.specs.Prelude.{◌≡◌, All, IfOk};
-ghost use Rattle.ct_run.specs.Ending.{usage, bad_instance, bad_sessions, done};
+ghost use Rattle.std.specs.Prelude.{IfOk};
+ghost use Rattle.ct_run.specs.Outcome.{usage, bad_instance, bad_sessions, answered};
+ghost use Rattle.ct_run.specs.Stopping.{Fits};
 ghost use Rattle.ct_input.specs.Script.{IsScript};
 
 use crate::report::push_report;
@@ -18,7 +19,7 @@ pub struct Ending {
 }
 
 pub fn usage_ending(alloc: Global) -> Result<Ending, AllocError>
-    ensures { IfOk result (λ ending. ending ≡ usage) }
+    ensures { IfOk result (λ ending. Fits usage ending) }
 {
     Ok(Ending {
         status: Status::Usage,
@@ -27,7 +28,7 @@ pub fn usage_ending(alloc: Global) -> Result<Ending, AllocError>
 }
 
 pub fn bad_instance_ending(alloc: Global, fault: &Fault) -> Result<Ending, AllocError>
-    ensures { IfOk result (λ ending. ending ≡ bad_instance fault.now) }
+    ensures { IfOk result (λ ending. Fits (bad_instance fault.now) ending) }
 {
     let mut text = Vec::from_slice(alloc, b"bad instance: ")?;
     push_fault(&mut text, fault)?;
@@ -39,7 +40,7 @@ pub fn bad_instance_ending(alloc: Global, fault: &Fault) -> Result<Ending, Alloc
 }
 
 pub fn bad_sessions_ending(alloc: Global, fault: &Fault) -> Result<Ending, AllocError>
-    ensures { IfOk result (λ ending. ending ≡ bad_sessions fault.now) }
+    ensures { IfOk result (λ ending. Fits (bad_sessions fault.now) ending) }
 {
     let mut text = Vec::from_slice(alloc, b"bad sessions: ")?;
     push_fault(&mut text, fault)?;
@@ -52,7 +53,7 @@ pub fn bad_sessions_ending(alloc: Global, fault: &Fault) -> Result<Ending, Alloc
 
 pub fn report_ending(alloc: Global, inst: &Instance, script: &Script) -> Result<Ending, AllocError>
     requires { IsScript inst.now.rows script.now }
-    ensures { IfOk result (λ ending. ending ≡ done inst.now script.now) }
+    ensures { IfOk result (λ ending. Fits (answered inst.now script.now) ending) }
 {
     let mut text = Vec::new(alloc);
     push_report(alloc, &mut text, inst, script)?;

@@ -1,9 +1,10 @@
 //! The commands: from the words and the files to the bytes that are written.
 //!
 //! [`run_plain`] fetches the files that the words name, reads them, answers, and writes one text: the report, or the
-//! line of a refusal. Its clauses say for each [`Status`] when it comes and what was written. The whole text is built
-//! before the first write. `specs/` has the words of a command, the report text, and the ending of a run by what the
-//! files hold.
+//! line of a refusal. Its clauses say for each [`Status`] when it comes and what was written, for every command alike,
+//! since what a command does is a plan. The whole text is built before the first write. `specs/` has the words of a
+//! command, its plan, what a plan comes to by what the files hold, the texts of an outcome, and how a run goes along
+//! a plan.
 #![tactic(auto)]
 
 mod ending;
@@ -11,6 +12,7 @@ mod reading;
 mod report;
 mod run;
 mod status;
+mod stop;
 #[cfg(test)]
 mod tests;
 mod words;

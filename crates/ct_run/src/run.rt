@@ -1,73 +1,75 @@
 //! The top call.
-ghost use Rattle.std.specs.Prelude.{◌≡◌, ◌≤◌, ℕ, List, None, Some, map, string_bytes, IfOk, IfErr};
-ghost use Rattle.std.specs.Io.KnownBytes.{Appends};
+ghost use Rattle.std.specs.Prelude.{◌≡◌, ◌≤◌, ⊤, false, ℕ, List, Some};
 ghost use Rattle.ct_outside.specs.Faults.{Rose};
-ghost use Rattle.ct_outside.specs.Sink.{AppendsFront};
-ghost use Rattle.ct_run.specs.Words.{answer, command_of};
-ghost use Rattle.ct_run.specs.Ending.{usage, Ends, WouldEnd, IsEndOf, Wrote, IsUnlessStopped, IsUnlessMemory, IsNamed, HasReadFault, NoReadFault};
+ghost use Rattle.ct_outside.specs.Shelf.{KeepsShelf};
+ghost use Rattle.ct_run.specs.Words.{answer};
+ghost use Rattle.ct_run.specs.Outcome.{Wrote, WroteFront, is_stop, IsUnlessStopped, IsUnlessMemory};
+ghost use Rattle.ct_run.specs.Plan.{sessions_plan, plan_of, plan_in};
+ghost use Rattle.ct_run.specs.Running.{Ends, WouldEnd, ComesTo, Runs, HasReadFault, NoReadFault};
+ghost use Rattle.ct_run.specs.Stopping.{Ran};
 
 use crate::ending::{
     Ending, bad_instance_ending, bad_sessions_ending, report_ending, usage_ending,
 };
-use crate::reading::{Unread, instance_at, script_at};
+use crate::reading::file_at;
 use crate::status::Status;
-use crate::words::{Files, command_in};
+use crate::stop::Stop;
+use crate::words::{Command, command_in};
+use ct_input::limits::{INSTANCE_FILE_LIMIT, SESSION_FILE_LIMIT};
+use ct_input::{InputStop, read_instance, read_sessions};
+use ct_instance::Instance;
 use ct_outside::{Shelf, Sink, write_whole};
-use std::alloc::{AllocError, Global};
+use std::alloc::Global;
 
-/// Why a run has no text.
-#[derive(Clone, Copy, Debug, PartialEq, Eq)]
-enum Stop {
-    ReadFault,
-    Memory,
-}
-
-impl From<AllocError> for Stop {
-    ghost use Rattle.ct_run.specs.declared.run.Stop.TheVariants.{Memory};
-
-    ghost from_gives = { λ _ stop. stop ≡ Memory };
-
-    fn from(_error: AllocError) -> Stop {
-        Stop::Memory
+// The ending of `answer` on the session file of an instance.
+fn sessions_ending<S: Shelf>(
+    alloc: Global,
+    inst: &Instance,
+    sessions: &str,
+    shelf: &mut S,
+) -> Result<Ending, Stop>
+    ensures ran { Ran (sessions_plan sessions.now inst.now) (S.told shelf.old) (S.faults shelf.old) (S.faults shelf.new) result }
+    ensures kept { S.told shelf.new ≡ S.told shelf.old }
+    ensures later { (name : List ℕ) → S.faults shelf.old name ≤ S.faults shelf.new name }
+{
+    let bytes = file_at(alloc, sessions, SESSION_FILE_LIMIT as u64, shelf)?;
+    match read_sessions(alloc, inst.rows(), &bytes) {
+        Ok(script) => Ok(report_ending(alloc, inst, &script)?),
+        Err(InputStop::Fault(fault)) => Ok(bad_sessions_ending(alloc, &fault)?),
+        Err(InputStop::Memory) => Err(Stop::Memory),
     }
 }
 
-// The ending of `answer` on these files. The second is fetched only where the first was read.
-fn answer_ending<S: Shelf>(alloc: Global, files: &Files, shelf: &mut S) -> Result<Ending, Stop>
-    ensures ends { IfOk result (λ ending. Ends (Some (answer files.now.instance.now files.now.sessions.now)) (S.told shelf.old) (λ e. ending ≡ e)) }
-    ensures status { IfOk result (λ ending. IsEndOf (Some (answer files.now.instance.now files.now.sessions.now)) ending.status) }
-    ensures cause { IfErr result (λ stop. stop ≡ Stop.ReadFault → HasReadFault (Some (answer files.now.instance.now files.now.sessions.now)) (S.told shelf.old) (S.faults shelf.old) (S.faults shelf.new)) }
+// The ending of `answer` on these files.
+fn answer_ending<S: Shelf>(
+    alloc: Global,
+    instance: &str,
+    sessions: &str,
+    shelf: &mut S,
+) -> Result<Ending, Stop>
+    ensures ran { Ran (plan_of (Some (answer instance.now sessions.now))) (S.told shelf.old) (S.faults shelf.old) (S.faults shelf.new) result }
     ensures kept { S.told shelf.new ≡ S.told shelf.old }
     ensures later { (name : List ℕ) → S.faults shelf.old name ≤ S.faults shelf.new name }
-    ensures others { (name : List ℕ) → ¬ (IsNamed (Some (answer files.now.instance.now files.now.sessions.now)) name) → S.faults shelf.new name ≡ S.faults shelf.old name }
 {
-    let inst = match instance_at(alloc, files.instance, shelf) {
-        Ok(inst) => inst,
-        Err(Unread::Fault(fault)) => return Ok(bad_instance_ending(alloc, &fault)?),
-        Err(Unread::Failed) => return Err(Stop::ReadFault),
-        Err(Unread::Memory) => return Err(Stop::Memory),
-    };
-    let script = match script_at(alloc, &inst, files.sessions, shelf) {
-        Ok(script) => script,
-        Err(Unread::Fault(fault)) => return Ok(bad_sessions_ending(alloc, &fault)?),
-        Err(Unread::Failed) => return Err(Stop::ReadFault),
-        Err(Unread::Memory) => return Err(Stop::Memory),
-    };
-    Ok(report_ending(alloc, &inst, &script)?)
+    let bytes = file_at(alloc, instance, INSTANCE_FILE_LIMIT as u64, shelf)?;
+    match read_instance(alloc, &bytes) {
+        Ok(inst) => sessions_ending(alloc, &inst, sessions, shelf),
+        Err(InputStop::Fault(fault)) => Ok(bad_instance_ending(alloc, &fault)?),
+        Err(InputStop::Memory) => Err(Stop::Memory),
+    }
 }
 
 // How the run ends before it writes.
 fn ending_of<S: Shelf>(alloc: Global, words: &[String], shelf: &mut S) -> Result<Ending, Stop>
-    ensures ends { IfOk result (λ ending. Ends (command_of (map string_bytes words.now)) (S.told shelf.old) (λ e. ending ≡ e)) }
-    ensures status { IfOk result (λ ending. IsEndOf (command_of (map string_bytes words.now)) ending.status) }
-    ensures cause { IfErr result (λ stop. stop ≡ Stop.ReadFault → HasReadFault (command_of (map string_bytes words.now)) (S.told shelf.old) (S.faults shelf.old) (S.faults shelf.new)) }
+    ensures ran { Ran (plan_in words.now) (S.told shelf.old) (S.faults shelf.old) (S.faults shelf.new) result }
     ensures kept { S.told shelf.new ≡ S.told shelf.old }
     ensures later { (name : List ℕ) → S.faults shelf.old name ≤ S.faults shelf.new name }
-    ensures others { (name : List ℕ) → ¬ (IsNamed (command_of (map string_bytes words.now)) name) → S.faults shelf.new name ≡ S.faults shelf.old name }
 {
     match command_in(words) {
         None => Ok(usage_ending(alloc)?),
-        Some(files) => answer_ending(alloc, &files, shelf),
+        Some(Command::Answer { instance, sessions }) => {
+            answer_ending(alloc, instance, sessions, shelf)
+        }
     }
 }
 
@@ -82,33 +84,29 @@ pub fn run_plain<S: Shelf, O: Sink>(
     shelf: &mut S,
     out: &mut O,
 ) -> Status
-    ensures done { result ≡ Status.Done → Ends (command_of (map string_bytes words.now)) (S.told shelf.old) (Wrote Status.Done (O.held out.old) (O.held out.new)) }
-    ensures usage { result ≡ Status.Usage → (command_of (map string_bytes words.now) ≡ None) × Appends (O.held out.old) (O.held out.new) usage.text }
-    ensures bad_instance { result ≡ Status.BadInstance → Ends (command_of (map string_bytes words.now)) (S.told shelf.old) (Wrote Status.BadInstance (O.held out.old) (O.held out.new)) }
-    ensures bad_sessions { result ≡ Status.BadSessions → Ends (command_of (map string_bytes words.now)) (S.told shelf.old) (Wrote Status.BadSessions (O.held out.old) (O.held out.new)) }
+    // A status that isn't one of three stops is that of what the words and files come to, and a whole text of it was written.
+    ensures written { is_stop result ≡ false → Ends (plan_in words.now) (S.told shelf.old) (Wrote result (O.held out.old) (O.held out.new)) }
+    ensures exactly { WouldEnd (plan_in words.now) (S.told shelf.old) (IsUnlessStopped result) }
+    ensures complete { NoReadFault (plan_in words.now) (S.told shelf.old) (S.faults shelf.old) (S.faults shelf.new) → ¬ (Rose (O.faults out.old) (O.faults out.new)) →
+        WouldEnd (plan_in words.now) (S.told shelf.old) (IsUnlessMemory result) }
 
-    // Each of the four comes where the words and files say so, with no other cause in its place than these three.
-    ensures exactly { WouldEnd (command_of (map string_bytes words.now)) (S.told shelf.old) (IsUnlessStopped result) }
-    ensures read_fault { result ≡ Status.ReadFault → HasReadFault (command_of (map string_bytes words.now)) (S.told shelf.old) (S.faults shelf.old) (S.faults shelf.new) }
+    // What each stop is caused by, and what it leaves.
+    ensures read_fault { result ≡ Status.ReadFault → HasReadFault (plan_in words.now) (S.told shelf.old) (S.faults shelf.old) (S.faults shelf.new) }
     ensures write_fault { result ≡ Status.WriteFault → Rose (O.faults out.old) (O.faults out.new) }
-    ensures complete { NoReadFault (command_of (map string_bytes words.now)) (S.faults shelf.old) (S.faults shelf.new) → ¬ (Rose (O.faults out.old) (O.faults out.new)) →
-        WouldEnd (command_of (map string_bytes words.now)) (S.told shelf.old) (IsUnlessMemory result) }
-
-    // A fault of writing leaves a front of the text; the two other causes leave nothing written.
-    ensures front { result ≡ Status.WriteFault → Ends (command_of (map string_bytes words.now)) (S.told shelf.old) (λ e. AppendsFront (O.held out.old) (O.held out.new) e.text) }
+    ensures front { result ≡ Status.WriteFault → Ends (plan_in words.now) (S.told shelf.old) (WroteFront (O.held out.old) (O.held out.new)) }
     ensures unread { result ≡ Status.ReadFault → out.new ≡ out.old }
     ensures memory { result ≡ Status.Memory → out.new ≡ out.old }
 
-    // No file changes, no count falls, and those of other files stay.
-    ensures kept { S.told shelf.new ≡ S.told shelf.old }
-    ensures later { (name : List ℕ) → S.faults shelf.old name ≤ S.faults shelf.new name }
-    ensures others { (name : List ℕ) → ¬ (IsNamed (command_of (map string_bytes words.now)) name) → S.faults shelf.new name ≡ S.faults shelf.old name }
+    // Files are asked for in the plan's order, and none after the one at which the run stopped.
+    ensures order { Runs (S.told shelf.old) (S.faults shelf.old) (S.faults shelf.new) (λ outcome. ⊤) (λ name. ⊤) (plan_in words.now) }
+
+    // No file changes, no count falls, and those of files that the plan doesn't come to stay.
+    ensures shelf { KeepsShelf (S.told shelf.old) (S.told shelf.new) (S.faults shelf.old) (S.faults shelf.new) (ComesTo (plan_in words.now) (S.told shelf.old)) }
     ensures sink_later { O.faults out.old ≤ O.faults out.new }
 {
     let ending = match ending_of(alloc, words, shelf) {
         Ok(ending) => ending,
-        Err(Stop::ReadFault) => return Status::ReadFault,
-        Err(Stop::Memory) => return Status::Memory,
+        Err(stop) => return stop.status(),
     };
     match write_whole(out, ending.text.as_slice()) {
         Ok(()) => ending.status,

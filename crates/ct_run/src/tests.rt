@@ -1,6 +1,6 @@
 //! Runs of the worked examples, and faults of reading and writing.
 use super::*;
-use ct_outside::{MemShelf, MemSink};
+use ct_outside::{FetchFault, MemShelf, MemSink, Shelf};
 use std::alloc::{AllocError, Global};
 use std::test::Fail;
 
@@ -215,6 +215,27 @@ fn faults_of_files_and_output(rt: HostRuntime) -> Result<(), Fail> {
         let status = run_plain(alloc, &words, &mut shelf, &mut out);
         assert!(rt; status.number() == number, "row {row}");
         assert!(rt; out.held().len() == held, "row {row}");
+    }
+    Ok(())
+}
+
+// A fetch after the run has the next number: the session file isn't asked for after an instance that is bad or failed.
+#[test]
+fn a_second_file_waits_for_the_first(rt: HostRuntime) -> Result<(), Fail> {
+    let alloc = rt.alloc();
+    let words = words_of(alloc, &["answer", "K", "S"])?;
+    for (row, (instance, failing, number)) in [(ZERO, 0, 3), (K, 1, 5)].into_iter().enumerate() {
+        let mut shelf = MemShelf::new(alloc);
+        shelf.add(alloc, "K", instance.as_bytes())?;
+        shelf.add(alloc, "S", ONE.as_bytes())?;
+        shelf.fail_at(alloc, failing)?;
+        shelf.fail_at(alloc, 2)?;
+        let mut out = MemSink::new(alloc, 1000, 1000)?;
+        let status = run_plain(alloc, &words, &mut shelf, &mut out);
+        assert!(rt; status.number() == number, "row {row}");
+        let mut bytes = Vec::new(alloc);
+        let second = shelf.fetch(alloc, "S", 1000, &mut bytes);
+        assert!(rt; second.err() == Some(FetchFault::Failed), "row {row}");
     }
     Ok(())
 }

@@ -1,12 +1,16 @@
 //! The words of a command.
-ghost use Rattle.std.specs.Prelude.{◌≡◌, ◌∷◌, [], MatchOption, None, Some, map, string_bytes};
-ghost use Rattle.ct_run.specs.Words.{answer, is_name as is_name_of, command_of};
+ghost use Rattle.std.specs.Prelude.{◌≡◌, ◌∷◌, [], map, option_map, string_bytes};
+ghost use Rattle.ct_run.specs.Words.{is_name as is_name_of, command_of};
+ghost use Rattle.ct_run.specs.Commands.{seen};
 
-/// The names of the files of `answer`.
+/// A command, with the names of its files.
 #[derive(Clone, Copy, Debug)]
-pub struct Files<'a> {
-    pub instance: &'a str,
-    pub sessions: &'a str,
+pub enum Command<'a> {
+    /// Answers the requests of a session file.
+    Answer {
+        instance: &'a str,
+        sessions: &'a str,
+    },
 }
 
 // A word that may stand for a file.
@@ -20,26 +24,18 @@ fn is_name(word: &str) -> bool
 }
 
 // `answer` with these files, if the words are that.
-fn answer_in<'a>(name: &'a str, instance: &'a str, sessions: &'a str) -> Option<Files<'a>>
-    ensures { MatchOption result (command_of (name.now ∷ instance.now ∷ sessions.now ∷ []) ≡ None)
-        (λ files. command_of (name.now ∷ instance.now ∷ sessions.now ∷ []) ≡ Some (answer files.instance.now files.sessions.now)) }
+fn answer_in<'a>(name: &'a str, instance: &'a str, sessions: &'a str) -> Option<Command<'a>>
+    ensures { option_map seen result ≡ command_of (name.now ∷ instance.now ∷ sessions.now ∷ []) }
 {
-    if name != "answer" {
+    if name != "answer" || !is_name(instance) || !is_name(sessions) {
         return None;
     }
-    if !is_name(instance) {
-        return None;
-    }
-    if !is_name(sessions) {
-        return None;
-    }
-    Some(Files { instance, sessions })
+    Some(Command::Answer { instance, sessions })
 }
 
 /// The command that the words are, if they are one.
-pub fn command_in(words: &[String]) -> Option<Files<'_>>
-    ensures { MatchOption result (command_of (map string_bytes words.now) ≡ None)
-        (λ files. command_of (map string_bytes words.now) ≡ Some (answer files.instance.now files.sessions.now)) }
+pub fn command_in(words: &[String]) -> Option<Command<'_>>
+    ensures { option_map seen result ≡ command_of (map string_bytes words.now) }
 {
     if words.len() != 3 {
         return None;

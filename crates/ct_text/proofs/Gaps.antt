@@ -1,5 +1,5 @@
 -- The tokens of what is left of a text.
-use Rattle.std.proofs.Common.{◌≡◌, ℕ, suc, ◌+◌, ◌<◌, Bool, true, false, cond, not, eqb, List, [], ◌∷◌, take, drop, refl, sym, ap, ◌∙◌, arith}
+use Rattle.std.proofs.Common.{◌≡◌, ℕ, suc, ◌+◌, ◌<◌, Bool, true, false, eqb, List, [], ◌∷◌, take, drop, refl, sym, ap, ◌∙◌, arith}
 use Rattle.std.proofs.Common.{inl, inr, add-zero, add_assoc}
 use Rattle.std.specs.List.{prefix_len}
 use Rattle.std.proofs.lemmas.Bool.{cases_Bool}
@@ -12,11 +12,6 @@ use Rattle.ct_text.specs.Tokens.{Lexeme, Mode, between, inside, comment, is_plai
 abbrev pub gap : Bool → Mode
 gap false = between
 gap true = comment
-
--- a byte that begins no token
-pub tokens_in-gap : (in_comment : Bool) (p : Place) (b : ℕ) (bs : List ℕ) → (in_comment ≡ false → is_plain b ≡ false) → tokens_in (gap in_comment) p (b ∷ bs) ≡ tokens_in (gap (cond in_comment (not (eqb b 10)) (eqb b 35))) (past p b) bs
-tokens_in-gap true p b bs h = elim (eqb b 10) as (λ v. tokens_in (cond v between comment) (past p b) bs ≡ tokens_in (gap (not v)) (past p b) bs) [ true ↦ refl | false ↦ refl ]
-tokens_in-gap false p b bs h = rw (h refl) (elim (eqb b 35) as (λ v. tokens_in (cond v comment between) (past p b) bs ≡ tokens_in (gap v) (past p b) bs) [ true ↦ refl | false ↦ refl ])
 
 -- a plain byte ends no line
 past-plain : (p : Place) (b : ℕ) → is_plain b ≡ true → past p b ≡ record { line = p.line; column = p.column + 1 }

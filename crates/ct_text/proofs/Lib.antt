@@ -2,3 +2,4 @@ pub mod Gaps
 pub mod Digits
 pub mod Decimals
 pub mod Standing
+pub mod Splits

@@ -1,5 +1,5 @@
 -- The tokens of a text are those that stand in it.
-use Rattle.std.proofs.Common.{◌≡◌, ◌≢◌, ℕ, suc, ◌+◌, Bool, true, false, cond, not, ◌&&◌, ◌||◌, eqb, List, [], ◌∷◌, ◌++◌, length, refl, sym, ap, subst, ◌∙◌, inl, inr, arith, ◌⊎◌, append_assoc, add-zero}
+use Rattle.std.proofs.Common.{◌≡◌, ◌≢◌, ℕ, suc, ◌+◌, Bool, true, false, cond, not, ◌&&◌, ◌||◌, eqb, List, [], ◌∷◌, ◌++◌, length, refl, sym, ap, subst, ◌∙◌, inl, inr, arith, append_assoc, add-zero}
 use Rattle.std.specs.Prelude.{count_by}
 use Rattle.std.specs.List.{list_all, take_while}
 use Rattle.std.proofs.lemmas.Bool.Decides.{nat_tests}
@@ -215,11 +215,6 @@ after_byte comment b e h = absurd (h refl)
 
 comment_stays : (b : ℕ) → eqb b 10 ≡ false → mode_after comment b ≡ comment
 comment_stays b e = rw e refl
-
-comment_or_not : (mode : Mode) → (mode ≡ comment) ⊎ (mode ≢ comment)
-comment_or_not between = inr (λ e. cc)
-comment_or_not inside = inr (λ e. cc)
-comment_or_not comment = inl refl
 
 no_end-cons : (b : ℕ) (line : List ℕ) → list_all no_end (b ∷ line) ≡ true → (eqb b 10 ≡ false) × (list_all no_end line ≡ true)
 no_end-cons b line h = go (eqb b 10) (list_all no_end line) h

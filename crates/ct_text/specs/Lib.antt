@@ -4,3 +4,5 @@ pub mod Token
 pub mod Numbers
 pub mod NumberLaw
 pub mod TokenLaw
+pub mod Pieces
+pub mod PiecesLaw

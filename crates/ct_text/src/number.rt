@@ -17,8 +17,18 @@ pub enum NumberFault {
 
 /// The number that the text spells: `0`, or a digit from 1 to 9 followed by digits. There may be any
 /// number of digits; time is linear in them.
-#[tactic(auto, unfolding(crate::specs::Numbers::natural_of))]
 pub fn natural(text: &[u8], limit: u64) -> Result<u64, NumberFault>
+    ensures exact { result ≡ natural_of text.now limit }
+    ensures within { IfOk result (λ number. number ≤ limit) }
+{
+    let value = natural_wide(text, u128::from(limit))?;
+    Ok(value as u64)
+}
+
+/// As [`natural`], for a number that may be wider than 64 bits.
+#[tactic(auto, unfolding(crate::specs::Numbers::natural_of))]
+pub fn natural_wide(text: &[u8], limit: u128) -> Result<u128, NumberFault>
+    requires { limit < 2 ^ 124 }
     ensures exact { result ≡ natural_of text.now limit }
     ensures within { IfOk result (λ number. number ≤ limit) }
 {
@@ -33,21 +43,31 @@ pub fn natural(text: &[u8], limit: u64) -> Result<u64, NumberFault>
 
 /// The number that the text spells: as in [`natural`], or that after `-` where it isn't 0. The limit
 /// is on its size.
-#[tactic(auto, unfolding(crate::specs::Numbers::signed_of))]
 pub fn signed(text: &[u8], limit: u64) -> Result<i64, NumberFault>
     requires { limit < 2 ^ 63 }
     ensures exact { result ≡ signed_of text.now limit }
     ensures within { IfOk result (λ number. unsigned_abs number ≤ limit) }
 {
+    let number = signed_wide(text, u128::from(limit))?;
+    Ok(number as i64)
+}
+
+/// As [`signed`], for a number that may be wider than 64 bits.
+#[tactic(auto, unfolding(crate::specs::Numbers::signed_of))]
+pub fn signed_wide(text: &[u8], limit: u128) -> Result<i128, NumberFault>
+    requires { limit < 2 ^ 124 }
+    ensures exact { result ≡ signed_of text.now limit }
+    ensures within { IfOk result (λ number. unsigned_abs number ≤ limit) }
+{
     match text {
         [b'-', digits @ ..] => {
-            let size = natural(digits, limit)?;
+            let size = natural_wide(digits, limit)?;
             if size == 0 {
                 return Err(NumberFault::Spelling);
             }
-            Ok(-(size as i64))
+            Ok(-(size as i128))
         }
-        _ => Ok(natural(text, limit)? as i64),
+        _ => Ok(natural_wide(text, limit)? as i128),
     }
 }
 
@@ -68,17 +88,17 @@ fn are_digits(text: &[u8]) -> bool
 }
 
 // The number that the digits represent, unless it is above the limit.
-fn value_within(digits: &[u8], limit: u64) -> Option<u64>
-    requires { IsTrue (list_all is_ascii_digit digits.now) }
+fn value_within(digits: &[u8], limit: u128) -> Option<u128>
+    requires digits { IsTrue (list_all is_ascii_digit digits.now) }
+    requires room { limit < 2 ^ 124 }
     ensures { SomeIff result (value_of digits.now ≤ limit) (value_of digits.now) }
 {
-    let mut value = 0u64;
+    let mut value = 0u128;
     for digit in digits {
-        let more = u128::from(value) * 10 + u128::from(*digit - b'0');
-        if more > u128::from(limit) {
+        value = value * 10 + u128::from(*digit - b'0');
+        if value > limit {
             return None;
         }
-        value = more as u64;
     }
     Some(value)
 }

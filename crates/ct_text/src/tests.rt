@@ -1,6 +1,6 @@
 //! Values from outside the contracts.
 
-use crate::{NumberFault, Tokens, natural, push_natural, push_signed, signed};
+use crate::{NumberFault, Pieces, Tokens, natural, push_natural, push_signed, signed, signed_wide};
 use std::test::Fail;
 
 #[test]
@@ -45,6 +45,35 @@ fn numbers(rt: HostRuntime) {
     ] {
         assert!(rt; signed(text, 17) == value);
     }
+}
+
+#[test]
+fn wide_numbers(rt: HostRuntime) {
+    let limit = 32_000_000_000_000_000_000_000_000u128;
+    for (text, value) in [
+        (
+            &b"-32000000000000000000000000"[..],
+            Ok(-32_000_000_000_000_000_000_000_000i128),
+        ),
+        (b"32000000000000000000000001", Err(NumberFault::Over)),
+        (b"18446744073709551616", Ok(18_446_744_073_709_551_616)),
+        (b"+1", Err(NumberFault::Spelling)),
+    ] {
+        assert!(rt; signed_wide(text, limit) == value);
+    }
+}
+
+#[test]
+fn pieces_of_a_text(rt: HostRuntime) {
+    let mut pieces = Pieces::new(b",ab,,c,", b',');
+    for piece in [&b""[..], b"ab", b"", b"c", b""] {
+        assert!(rt; !pieces.is_end());
+        match pieces.next() {
+            Some(found) => assert!(rt; found == piece),
+            None => panic!(rt; "a piece is left"),
+        }
+    }
+    assert!(rt; pieces.is_end() && pieces.next().is_none());
 }
 
 #[test]

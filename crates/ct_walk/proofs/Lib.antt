@@ -7,3 +7,4 @@ pub mod Loops
 pub mod Followed
 pub mod Openings
 pub mod MoveFacts
+pub mod SlabFacts

@@ -5,6 +5,7 @@ ghost use Rattle.ct_walk.specs.Moves.{IsFault};
 
 use crate::degrees::{have_one_degree, is_below};
 use crate::faults::MoveFault;
+use ct_index::HasHead;
 use ct_instance::Instance;
 use ct_point::Point;
 use std::alloc::{AllocError, Global};
@@ -70,5 +71,17 @@ impl Move {
         let head = self.head.copy(alloc)?;
         let tail = self.tail.copy(alloc)?;
         Ok(Move { head, tail })
+    }
+}
+
+impl HasHead for Move {
+    ghost head_of = { λ m. m.head };
+
+    fn head(&self) -> &Point {
+        &self.head
+    }
+
+    fn copy(&self, alloc: Global) -> Result<Move, AllocError> {
+        Move::copy(self, alloc)
     }
 }

@@ -11,6 +11,7 @@ mod degrees;
 mod faults;
 pub mod laws;
 mod move_list;
+mod slabs;
 mod traces;
 mod walking;
 

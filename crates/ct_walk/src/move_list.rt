@@ -1,10 +1,17 @@
-ghost use Rattle.std.specs.Prelude.{◌≡◌, ◌+◌, ◌≤◌, ◌<◌, [], ◌∷◌, ◌++◌, length, All, Some, MatchOption, MatchResult, IfOk, OnOk, IfErr};
+//! Lists of moves, as slabs that lists share.
+ghost use Rattle.std.specs.Prelude.{◌≡◌, ◌+◌, ◌≤◌, ◌<◌, [], ◌∷◌, ◌++◌, length, map, All, IfOk, OnOk, IfErr};
+ghost use Rattle.std.specs.List.{flat_map};
+ghost use Rattle.std.specs.Arc.{arc_value};
+ghost use Rattle.ct_vectors.specs.Vectors.{IsTimes};
+ghost use Rattle.ct_index.specs.Pages.{IsPaged};
 ghost use Rattle.ct_instance.specs.Instance.{IsPoint};
-ghost use Rattle.ct_instance.specs.Walk.{IsMove, IsNormal, first_dividing};
+ghost use Rattle.ct_instance.specs.Walk.{first_dividing};
 ghost use Rattle.ct_instance.specs.Jobs.{the_move};
 ghost use Rattle.ct_walk.specs.Moves.{IsSmallMove, IsMoveList};
 
 use crate::binomials::Move;
+use crate::slabs::{self, Slab};
+use ct_index::{BLOCK_SIZE, Places};
 use ct_instance::Instance;
 use ct_point::Point;
 use std::alloc::{AllocError, Global};
@@ -13,27 +20,29 @@ use std::sync::Arc;
 
 /// A list of at most 4,096 moves of one instance, numbered from 1 in the order in which they were added.
 ///
-/// It keeps the two points of each move, and shares the instance.
+/// It keeps the two points of each move with an index of the heads, in slabs of 128 moves that lists share, and shares
+/// the instance.
 #[derive(Drop)]
 pub struct Moves {
+    alloc: Global,
     inst: Arc<Instance>,
-    moves: Vec<Move>,
+    slabs: Vec<Arc<Slab>>,
 }
 
 impl Model for Moves {
+    ghost use Rattle.std.specs.List.{flat_map};
     ghost use Rattle.std.specs.Arc.{arc_value};
+    ghost use Rattle.ct_index.specs.Pages.{ArePages};
     ghost use Rattle.ct_walk.specs.Moves.{MoveList, IsMoveList};
 
     ghost Value = { MoveList };
 
-    ghost view = { λ l. record { instance = arc_value l.inst; moves = l.moves.items } };
+    ghost view = { λ l. record { instance = arc_value l.inst; moves = flat_map arc_value l.slabs.items } };
 
-    ghost invariant = { λ l. IsMoveList (record { instance = arc_value l.inst; moves = l.moves.items }) };
+    ghost invariant = { λ l. IsMoveList (record { instance = arc_value l.inst; moves = flat_map arc_value l.slabs.items }) × ArePages arc_value l.slabs.items };
 }
 
 impl Moves {
-    ghost use Rattle.std.specs.Arc.{arc_value};
-
     /// No moves, of this instance.
     pub fn new(alloc: Global, inst: Arc<Instance>) -> Moves
         ensures instance { result.instance ≡ arc_value inst }
@@ -41,36 +50,62 @@ impl Moves {
     {
         let _rows = inst.rows();
         Moves {
+            alloc,
             inst,
-            moves: Vec::new(alloc),
+            slabs: Vec::new(alloc),
         }
     }
 
-    /// Adds a move at the end. For want of memory the move is handed back, and the list is as before.
+    /// Adds a move at the end, of which it keeps a copy. For want of memory the move is handed back, and the list is as
+    /// before. A last slab that isn't full is made anew.
     pub fn push(&mut self, mv: Move) -> Result<(), (Move, AllocError)>
         requires of_instance { IsSmallMove self.old.instance mv }
         requires room { length self.old.moves < 4096 }
         ensures ok { OnOk result (self.new ≡ record self.old { moves = self.old.moves ++ mv ∷ [] }) }
         ensures err { IfErr result (λ e. (self.new ≡ self.old) × (e.0 ≡ mv)) }
     {
-        match self.moves.push(mv) {
-            Ok(()) => Ok(()),
-            Err(failed) => Err((failed.value, AllocError)),
+        match self.with_copy(&mv) {
+            Ok(slabs) => {
+                self.slabs = slabs;
+                Ok(())
+            }
+            Err(failed) => Err((mv, failed)),
         }
     }
 
-    /// A new list: these moves, which are copied, and then more. For want of memory this list is unchanged, and more is
-    /// dropped.
+    // The slabs of these moves and a copy of this one.
+    fn with_copy(&self, mv: &Move) -> Result<Vec<Arc<Slab>>, AllocError>
+        requires of_instance { IsSmallMove self.now.instance mv.now }
+        requires room { length self.now.moves < 4096 }
+        ensures { IfOk result (λ v. IsPaged arc_value v.items × (flat_map arc_value v.items ≡ self.now.moves ++ mv.now ∷ [])) }
+    {
+        let mut one = Vec::new(self.alloc);
+        one.push(mv.copy(self.alloc)?)?;
+        self.grown(self.alloc, one)
+    }
+
+    /// A new list: these moves and then more. It shares the full slabs, and the last one too where nothing is added; a
+    /// last slab that isn't full is made anew with more. For want of memory this list is unchanged, and more is dropped.
     pub fn extended(&self, alloc: Global, more: Vec<Move>) -> Result<Moves, AllocError>
         requires of_instance { All (IsSmallMove self.now.instance) more.items }
         requires room { length self.now.moves + length more.items ≤ 4096 }
         ensures { IfOk result (λ l. l ≡ record self.now { moves = self.now.moves ++ more.items }) }
     {
-        let mut more = more;
-        let mut moves = copies(alloc, &self.moves)?;
-        moves.append(&mut more)?;
         let inst = Arc::try_clone(&self.inst)?;
-        Ok(Moves { inst, moves })
+        let slabs = self.grown(alloc, more)?;
+        Ok(Moves { alloc, inst, slabs })
+    }
+
+    // The slabs of these moves and more.
+    fn grown(&self, alloc: Global, more: Vec<Move>) -> Result<Vec<Arc<Slab>>, AllocError>
+        requires of_instance { All (IsSmallMove self.now.instance) more.items }
+        requires room { length self.now.moves + length more.items ≤ 4096 }
+        ensures { IfOk result (λ v. IsPaged arc_value v.items × (flat_map arc_value v.items ≡ self.now.moves ++ more.items)) }
+    {
+        if more.is_empty() {
+            return slabs::shared(alloc, &self.slabs);
+        }
+        slabs::grown(alloc, &self.inst, &self.slabs, more)
     }
 
     /// The instance of the moves.
@@ -86,7 +121,11 @@ impl Moves {
         ensures count { result ≡ length self.now.moves }
         ensures most { result ≤ 4096 }
     {
-        self.moves.len() as u32
+        let count = self.slabs.len();
+        if count == 0 {
+            return 0;
+        }
+        (BLOCK_SIZE * (count - 1) + self.slabs[count - 1].items().len()) as u32
     }
 
     /// The move with this number, from 1.
@@ -96,39 +135,33 @@ impl Moves {
         ensures at { result.now ≡ the_move self.now.moves number }
         ensures of_instance { IsSmallMove self.now.instance result.now }
     {
-        &self.moves[number as usize - 1]
+        let index = number as usize - 1;
+        &self.slabs[index / BLOCK_SIZE].items()[index % BLOCK_SIZE]
     }
 
-    /// The least number of a move whose head is at most p. It is linear in the number of moves.
+    // How many times the head of the move with this number fits into p.
+    pub(crate) fn times_in(&self, number: u32, p: &Point) -> u64
+        requires some { 1 ≤ number }
+        requires within { number ≤ length self.now.moves }
+        requires point { IsPoint self.now.instance p.now }
+        ensures { IsTimes (the_move self.now.moves number).head p.now result }
+    {
+        let index = number as usize - 1;
+        self.slabs[index / BLOCK_SIZE].times_in(index % BLOCK_SIZE, p)
+    }
+
+    /// The least number of a move whose head is at most p. It looks into the index of each slab, and takes no memory.
     pub fn first_dividing(&self, p: &Point) -> Option<u32>
         requires { IsPoint self.now.instance p.now }
         ensures { result ≡ first_dividing self.now.moves p.now }
     {
-        scan(&self.moves, p)
-    }
-}
-
-// Equal moves in order.
-fn copies(alloc: Global, moves: &[Move]) -> Result<Vec<Move>, AllocError>
-    ensures { IfOk result (λ v. v.items ≡ moves.now) }
-{
-    let mut made = Vec::new(alloc);
-    for mv in moves {
-        made.push(mv.copy(alloc)?)?;
-    }
-    Ok(made)
-}
-
-// The least number, from 1, of a move whose head is at most p.
-fn scan(moves: &[Move], p: &Point) -> Option<u32>
-    requires widths { All (λ m. length m.head ≡ length p.now) moves.now }
-    requires few { length moves.now ≤ 4096 }
-    ensures { result ≡ first_dividing moves.now p.now }
-{
-    for k in 0..moves.len() {
-        if moves[k].head().divides(p) {
-            return Some(k as u32 + 1);
+        let mut places = Places::new();
+        places.look_at(p);
+        for k in 0..self.slabs.len() {
+            if let Some(j) = self.slabs[k].first_dividing(p, &places) {
+                return Some((BLOCK_SIZE * k + j) as u32 + 1);
+            }
         }
+        None
     }
-    None
 }

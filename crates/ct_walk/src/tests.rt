@@ -154,9 +154,7 @@ fn a_walk_of_three_steps_by_two_moves_and_three_more(rt: HostRuntime) {
     assert!(rt; two.len() == 2 && moves.len() == 5);
     let start = point(&rt, alloc, &inst, [9, 1, 7]);
     assert!(rt; inst.grade_wide(&start) == 39);
-    let (steps, end) = walk(alloc, &moves, start)
-        .expect(&rt, "room")
-        .into_parts();
+    let (steps, end) = walk(alloc, &moves, start).expect(&rt, "room").into_parts();
     assert!(rt; steps.as_slice() == [(1, 2), (3, 1), (5, 2)].as_slice());
     assert!(rt; end.as_slice() == [3, 6, 0].as_slice());
 }

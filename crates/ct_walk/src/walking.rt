@@ -1,7 +1,7 @@
 ghost use Rattle.std.specs.Prelude.{◌≡◌, ◌≤◌, length, MatchOption, IfOk, OnOk, IfErr, IsTrue, ◌↔◌};
 ghost use Rattle.ct_instance.specs.Instance.{IsPoint, grade_of};
 ghost use Rattle.ct_instance.specs.Walk.{IsNormal, IsStep, IsWalk, IsWalkEnd, moved};
-ghost use Rattle.ct_vectors.specs.Vectors.{scale, Divides, IsTimes};
+ghost use Rattle.ct_vectors.specs.Vectors.{scale, Divides};
 ghost use Rattle.ct_instance.specs.Jobs.{the_move};
 ghost use Rattle.ct_walk.specs.Moves.{Follows, CanApply, IsRefused};
 
@@ -47,22 +47,11 @@ fn step_on(moves: &Moves, p: &mut Point) -> Option<(u32, u64)>
     match moves.first_dividing(p) {
         None => None,
         Some(number) => {
-            let times = fitting(moves, number, p);
+            let times = moves.times_in(number, p);
             make_move(moves, number, times, p);
             Some((number, times))
         }
     }
-}
-
-// How many times the move with this number fits.
-fn fitting(moves: &Moves, number: u32, p: &Point) -> u64
-    requires some { 1 ≤ number }
-    requires within { number ≤ length moves.now.moves }
-    requires point { IsPoint moves.now.instance p.now }
-    ensures { IsTimes (the_move moves.now.moves number).head p.now result }
-{
-    let _inst = moves.instance();
-    moves.get(number).head().times_in(p)
 }
 
 // Makes the move with this number so many times.
@@ -108,5 +97,5 @@ fn applies(moves: &Moves, p: &Point, number: u32, times: u64) -> bool
     if number < 1 || number > moves.len() {
         return false;
     }
-    times >= 1 && times <= fitting(moves, number, p)
+    times >= 1 && times <= moves.times_in(number, p)
 }

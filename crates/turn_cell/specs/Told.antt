@@ -5,6 +5,11 @@ use Rattle.atomic_table.specs.Seated.{TableId}
 use Rattle.turn_cell.specs.declared.note.Note.{Note}
 use Rattle.turn_cell.specs.Sight.{CellSight, IsEven, IsOdd}
 
+-- a seat at the table of a cell: what its pass knows, and the slots in its hand
+pub record SeatSight (V : Type 0) : Type 0 where
+  pub table_id : TableId
+  pub me : Me (Option V) (Note V)
+
 module _ {V : Type 0} where
   abbrev pub sight_of : TableId → Note V → CellSight V
   sight_of cell note = record { cell = cell; first = note.first; seen = note.seen; held = note.held; words = note.words; splits = note.splits }

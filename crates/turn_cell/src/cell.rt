@@ -1,33 +1,27 @@
-// The cell.
-ghost use Rattle.std.specs.Prelude.{◌≡◌, ◌⊎◌, max};
+//! The cell.
+ghost use Rattle.std.specs.Prelude.{◌≡◌, ◌<◌, ◌≤◌, max};
 
 use crate::held::Held;
-use crate::note::Note;
 use crate::numbered::Numbered;
 use crate::pass::Pass;
-use crate::rule::{Cut, Look, Merge, Release, Take, Turns};
 use crate::stops::{Busy, ReadStop};
-use atomic_table::{Refused, Table};
+use crate::table::CellTable;
 use std::alloc::{AllocError, Global};
 use std::marker::Model;
-use std::snapshot::Snapshot;
 use std::sync::Wait;
 
 /// A cell for the newest of a line of numbered values.
 #[derive(Drop)]
 pub struct TurnCell<V: Numbered + Drop> {
-    table: Table<Option<V>, Note<V>, Snapshot<V>, Turns<V>, Global>,
+    table: CellTable<V>,
 }
 
 impl<V: Numbered + Drop> Model for TurnCell<V> {
-    ghost use Rattle.std.specs.Prelude.{◌≡◌};
     ghost use Rattle.turn_cell.specs.Sight.{CellPlace};
 
     ghost Value = { CellPlace V };
 
-    ghost view = { λ c. record { cell = c.table.shared.table_id; first = c.table.shared.key.value } };
-
-    ghost invariant = { λ c. (c.table.shared.table_id.words ≡ 1) × (c.table.shared.table_id.slots ≡ 1) };
+    ghost view = { λ c. c.table };
 }
 
 impl<V: Numbered + Drop> TurnCell<V> {
@@ -43,17 +37,8 @@ impl<V: Numbered + Drop> TurnCell<V> {
         ensures pass { IfOk result (λ c. IsOfCell c.0 c.1 × (c.1.seen ≡ V.number_of first) × (c.1.held ≡ None) × (c.1.words ≡ []) × (c.1.splits ≡ 0)) }
     {
         let number = first.number();
-        let about = Snapshot::of(&first);
-        let mut slots = Vec::with_capacity(alloc, 1)?;
-        slots.push_reserved(Some(first));
-        match Table::new(alloc, &[2 * number], slots, &about) {
-            Ok((table, seat)) => {
-                let cell = TurnCell { table };
-                let pass = Pass { seat, seen: number };
-                Ok((cell, pass))
-            }
-            Err(Refused { slots: _ }) => Err(AllocError),
-        }
+        let (table, seat) = CellTable::open(alloc, first)?;
+        Ok((TurnCell { table }, Pass { seat, seen: number }))
     }
 
     /// A second pass, which has seen what the old one has. One atomic step, with no memory.
@@ -62,9 +47,8 @@ impl<V: Numbered + Drop> TurnCell<V> {
         ensures kept { pass.new ≡ record pass.old { splits = pass.old.splits + 1 } }
         ensures given { result ≡ record pass.old { held = None; words = []; splits = pass.old.splits + 1 } }
     {
-        let seat = self.table.shared.split_seat::<Cut>(&mut pass.seat);
         Pass {
-            seat,
+            seat: self.table.split(&mut pass.seat),
             seen: pass.seen,
         }
     }
@@ -76,7 +60,7 @@ impl<V: Numbered + Drop> TurnCell<V> {
         ensures { pass.new ≡ record pass.old { seen = max pass.old.seen other.seen; splits = max pass.old.splits other.splits } }
     {
         let Pass { seat, seen } = other;
-        self.table.shared.join_seat::<Merge>(&mut pass.seat, seat);
+        self.table.join(&mut pass.seat, seat);
         if pass.seen < seen {
             pass.seen = seen;
         }
@@ -88,7 +72,7 @@ impl<V: Numbered + Drop> TurnCell<V> {
         ensures seen { pass.new ≡ record pass.old { seen = result } }
         ensures rises { pass.old.seen ≤ result }
     {
-        let number = self.table.shared.load::<Look>(&mut pass.seat, 0) / 2;
+        let number = self.table.load(&mut pass.seat) / 2;
         pass.seen = number;
         number
     }
@@ -103,15 +87,14 @@ impl<V: Numbered + Drop> TurnCell<V> {
         ensures name { IfOk result (λ v. V.name_of v ≡ V.name_of self.now.first) }
         ensures rises { pass.old.seen ≤ pass.new.seen }
     {
-        let found = self.table.shared.fetch_or::<Take<V>>(&mut pass.seat, 0, 1);
+        let found = self.table.take(&mut pass.seat);
         pass.seen = found / 2;
         if found % 2 == 1 {
             return Err(Busy { word: found });
         }
-        let Some(value) = self.table.shared.exchange(&mut pass.seat, 0, None) else {
-            unreachable!()
-        };
-        Ok(Held { value })
+        Ok(Held {
+            value: self.table.exchange_out(&mut pass.seat),
+        })
     }
 
     /// Gives the turn back, with the value that was held, by one swap. It takes no memory.
@@ -151,7 +134,8 @@ impl<V: Numbered + Drop> TurnCell<V> {
         }
     }
 
-    /// Puts the value into the cell, or drops it where the number at home is at least its number.
+    /// Puts the value into the cell, or drops it where the number at home is at least its number: of two values with one
+    /// number the one at home stays.
     /// It tries to take the turn until it has it, and so may wait for ever. It takes no memory.
     pub fn put<R: Wait>(&self, rt: &R, pass: &mut Pass<V>, v: V)
         requires own { IsOfCell self.now pass.old }
@@ -192,18 +176,17 @@ impl<V: Numbered + Drop> TurnCell<V> {
         ensures rises { pass.old.seen ≤ pass.new.seen }
     {
         let number = value.number();
-        self.table.shared.exchange(&mut pass.seat, 0, Some(value));
-        self.table
-            .shared
-            .swap::<Release>(&mut pass.seat, 0, 2 * number);
+        self.table.exchange_in(&mut pass.seat, value);
+        self.table.release(&mut pass.seat, number);
         pass.seen = number;
     }
 }
 
-// The value with the greater number, and of two with one number the first.
+// The value with the greater number, and of two with one number the one at home.
 fn greater<V: Numbered + Drop>(home: V, v: V) -> V
     ensures number { V.number_of result ≡ max (V.number_of home) (V.number_of v) }
-    ensures one_of_them { (result ≡ home) ⊎ (result ≡ v) }
+    ensures stays { V.number_of v ≤ V.number_of home → result ≡ home }
+    ensures comes { V.number_of home < V.number_of v → result ≡ v }
 {
     if v.number() <= home.number() { home } else { v }
 }

@@ -1,4 +1,4 @@
-// The value, while its pass holds the turn.
+//! The value, while its pass holds the turn.
 use crate::numbered::Numbered;
 use std::marker::Model;
 

@@ -6,6 +6,7 @@
 //! Only `put` tries again.
 //! Each thread steps with a pass of its own, which knows the greatest number that it has seen:
 //! the number in the cell never falls, so no read gives less than what the pass had seen before.
+//! Only the module `table` touches the shared word and slot, by one function for each kind of step.
 //! The rule of the cell holds between any two atomic steps: `specs/Turn.antt` states it, and
 //! `proofs/Steps.antt` has a lemma for each kind of step.
 #![tactic(auto)]
@@ -17,6 +18,7 @@ mod numbered;
 mod pass;
 mod rule;
 mod stops;
+mod table;
 #[cfg(test)]
 mod tests;
 

@@ -1,4 +1,4 @@
-// Values that have a number and belong to a name.
+//! Values that have a number and belong to a name.
 ghost use Rattle.std.specs.Prelude.{◌≡◌, ℕ, IfOk};
 
 use std::alloc::AllocError;

@@ -1,13 +1,12 @@
-// A pass of a cell.
-use crate::note::Note;
-use atomic_table::Seat;
+//! A pass of a cell.
+use crate::table::CellSeat;
 use std::marker::Model;
 
 /// What one thread steps with. It can't be copied, and only a cell makes one; use it with that cell alone.
 /// It takes no memory, and one that is dropped leaves the cell as it is.
 #[derive(Drop)]
 pub struct Pass<V> {
-    pub(crate) seat: Seat<Option<V>, Note<V>>,
+    pub(crate) seat: CellSeat<V>,
     pub(crate) seen: u64,
 }
 

@@ -1,4 +1,4 @@
-// Why a call has no value.
+//! Why a call has no value.
 
 /// Another pass held the turn. It carries the word that the take found, which is odd.
 #[derive(Clone, Copy, PartialEq, Eq, Debug)]

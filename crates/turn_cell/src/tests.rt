@@ -1,3 +1,4 @@
+//! One pass and two threads with numbers as values.
 ghost use Rattle.std.specs.Prelude.{◌≡◌, None};
 ghost use Rattle.turn_cell.specs.Sight.{IsOfCell};
 

@@ -1,4 +1,4 @@
-use Rattle.std.proofs.Common.{◌≡◌, ◌+◌, ◌%◌, ap, ◌∙◌, vec_len, rules, arith}
+use Rattle.std.proofs.Common.{◌≡◌, ◌+◌, ◌%◌, ap, ◌∙◌, vec_len, rules}
 use Rattle.std.proofs.Math.Nat.{add-mod_left}
 use Rattle.ct_input.proofs.instance_text.costs_in.Goals as goal
 

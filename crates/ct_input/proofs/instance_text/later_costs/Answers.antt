@@ -1,10 +1,10 @@
-use Rattle.std.proofs.Common.{◌≡◌, ◌-◌, ◌+◌, ◌*◌, ◌%◌, ◌≤◌, ℤ, List, suc, true, false, Ok, Bool, codes, nat_abs, sym, refl, ◌++◌, vec_len, ap, ◌∙◌, subst, arith, rules}
+use Rattle.std.proofs.Common.{◌≡◌, ◌-◌, ◌+◌, ◌*◌, ◌%◌, ◌≤◌, ℤ, List, suc, true, false, Ok, codes, nat_abs, sym, refl, ◌++◌, vec_len, ap, ◌∙◌, subst, arith, rules}
 use Rattle.std.proofs.Math.Nat.{mul-mod_left}
 use Rattle.std.proofs.lemmas.List.Elements.{All-append}
 use Rattle.std.proofs.lemmas.Result.{err_from_is_err_and}
 use Rattle.ct_vectors.specs.declared.limits.TheConstants.{COST_ROW_LIMIT, COST_LIMIT}
 use Rattle.ct_input.specs.Sheet.{Sheet, Fails}
-use Rattle.ct_input.specs.Grammar.{read, signeds, is_next, after_next, barred_at}
+use Rattle.ct_input.specs.Grammar.{read, signeds, is_next, after_next}
 use Rattle.ct_input.specs.InstanceText.{more_rows}
 use Rattle.ct_input.proofs.Loops.{with_front, is_done, stops_at, rows_go_on, rows_step, rows_end, rows_stop, rows_over, rows_done}
 use Rattle.ct_input.proofs.instance_text.later_costs.Goals as goal

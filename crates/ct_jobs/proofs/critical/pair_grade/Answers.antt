@@ -1,4 +1,5 @@
 use Rattle.std.proofs.Common.{◌≡◌, ◌≤◌, sym, subst, ap, ap₂, ◌∙◌, arith}
+use Rattle.ct_vectors.specs.declared.limits.TheConstants.{JOB_GRADE_LIMIT}
 use Rattle.ct_vectors.specs.Vectors.{lcm}
 use Rattle.ct_instance.specs.Instance.{grade_of, weighted}
 use Rattle.ct_instance.specs.Jobs.{the_move}
@@ -18,7 +19,7 @@ lcm_grade-requires-clause-fits c =
     let second = c.as_slice-second.ensures.coordinates ∙ c.head-2.ensures ∙ ap (λ m. m.head) c.get-2.ensures.at in
     let same : weighted c.sums.result.now (lcm c.as_slice-first.result.now c.as_slice-second.result.now) ≡ grade_of i.columns (lcm m.head n.head) =
     ap₂ weighted c.sums.ensures.sums (ap₂ lcm first second) ∙ sym (grade_is_weighted i.columns (lcm m.head n.head)) in
-    let limit : grade_of i.columns (lcm m.head n.head) ≤ 32000000000000 = subst (λ j. grade_of j.columns (lcm m.head n.head) ≤ 32000000000000) c.requires.instance (pair_grade_limit l.instance m n a b) in
+    let limit : grade_of i.columns (lcm m.head n.head) ≤ JOB_GRADE_LIMIT = subst (λ j. grade_of j.columns (lcm m.head n.head) ≤ JOB_GRADE_LIMIT) c.requires.instance (pair_grade_limit l.instance m n a b) in
     omega arith
 
 pub returns : goal.returns

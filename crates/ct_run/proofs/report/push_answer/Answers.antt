@@ -1,10 +1,9 @@
-use Rattle.std.proofs.Common.{◌≡◌, ℕ, ℤ, List, ◌+◌, ◌++◌, ◌<◌, ◌≤◌, All, map, take, length, sym, ap, ◌∙◌, subst, arith}
-use Rattle.ct_vectors.specs.declared.limits.TheConstants.{ROW_LIMIT, JOB_GRADE_LIMIT}
+use Rattle.std.proofs.Common.{◌≡◌, ℕ, ℤ, List, ◌++◌, map, take, sym, ap, ◌∙◌, arith}
 use Rattle.ct_order.specs.Order.{cost_of, art_total_of}
 use Rattle.ct_instance.specs.Instance.{column_count}
 use Rattle.ct_instance.specs.Fiber.{least_of}
-use Rattle.ct_instance.specs.Answer.{Outcome, optimum, answer_of}
-use Rattle.ct_instance.proofs.Points.{Fits, least_fits, answer-short, answer-optimum}
+use Rattle.ct_instance.specs.Answer.{Outcome, optimum}
+use Rattle.ct_instance.proofs.Points.{least_fits, answer-optimum}
 use Rattle.ct_run.specs.Report.{line_text}
 use Rattle.ct_run.proofs.report.push_answer.Goals as goal
 

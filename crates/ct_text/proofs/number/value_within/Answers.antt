@@ -3,8 +3,8 @@ use Rattle.ct_text.proofs.Digits.{value_after-ge, value_after-drop}
 use Rattle.ct_text.proofs.number.value_within.Goals as goal
 
 -- the digits after these add to the value
-pub returns-then-more-from : goal.returns-then-more-from
-returns-then-more-from c h =
+pub returns-then-value-limit : goal.returns-then-value-limit
+returns-then-value-limit c h =
     let i = c.loop-digit.digit-index in
     let digits = c.args.digits.now in
     let lt : i < length digits = omega arith in

@@ -1,9 +1,13 @@
-use Rattle.std.proofs.Common.{arith}
-use Rattle.ct_outside.proofs.Counted.{count_of-push_same, count_of-push_other}
+use Rattle.std.proofs.Common.{refl, arith}
+use Rattle.ct_outside.proofs.Counted.{count_of-push_same, count_of-push_other, count_of-push_later}
 use Rattle.ct_outside.proofs.file_shelf.FileShelfShelf.fetch.Goals as goal
 
 pub returns-in-Err-Failed-clause-cause : goal.returns-in-Err-Failed-clause-cause
 returns-in-Err-Failed-clause-cause g c = rw (c.in_ok-note.ensures.ok, ← c.self.view_is) (omega (arith, count_of-push_same c.self.inside.failed c.args.name.now))
 
-pub returns-in-Err-Failed-clause-others : goal.returns-in-Err-Failed-clause-others
-returns-in-Err-Failed-clause-others g c = λ other differs. rw (c.in_ok-note.ensures.ok, ← c.self.view_is) (count_of-push_other c.self.inside.failed c.args.name.now other differs)
+pub returns-in-Err-Failed-clause-shelf : goal.returns-in-Err-Failed-clause-shelf
+returns-in-Err-Failed-clause-shelf g c = rw (c.in_ok-note.ensures.ok, ← c.self.view_is) record {
+  kept = refl;
+  later = count_of-push_later c.self.inside.failed c.args.name.now;
+  others = count_of-push_other c.self.inside.failed c.args.name.now;
+}

@@ -1,6 +1,0 @@
-use Rattle.std.proofs.Common.{rules}
-use Rattle.count_lock.proofs.Steps.{joins_passes}
-use Rattle.count_lock.proofs.lock.CountLock.join.Goals as goal
-
-pub join_seat-requires : goal.join_seat-requires
-join_seat-requires g c = (search rules, search rules, search rules, search rules, joins_passes _ _ g.V.Counted.shows _ _ _ _ _ _ c.pass.invariant.0 (search rules) c.other.invariant.0 (search rules))

@@ -1,6 +1,0 @@
-use Rattle.std.proofs.Common.{rules}
-use Rattle.count_lock.proofs.Steps.{opens}
-use Rattle.count_lock.proofs.lock.CountLock.open.Goals as goal
-
-pub new-requires : goal.new-requires
-new-requires g c = opens _ _ g.V.Counted.shows _ _ _ (search rules) (search rules) (search rules)

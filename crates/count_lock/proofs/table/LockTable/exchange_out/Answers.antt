@@ -1,0 +1,6 @@
+use Rattle.std.proofs.Common.{rules, Some, ap, ◌∙◌}
+use Rattle.count_lock.proofs.Steps.{exchanges_out}
+use Rattle.count_lock.proofs.table.LockTable.exchange_out.Goals as goal
+
+pub exchange-requires : goal.exchange-requires
+exchange-requires g c = (search rules, exchanges_out _ (Some c.requires.in_hand.0) (ap (λ s. s.me.1) c.seat.view_is ∙ c.requires.in_hand.1))

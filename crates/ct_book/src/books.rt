@@ -1,0 +1,195 @@
+//! The book.
+ghost use Rattle.std.specs.Prelude.{◌≡◌, ◌≤◌, ◌<◌, ◌+◌, ◌^◌, [], ◌∷◌, ◌++◌, ◌↔◌, ℕ, length, IfOk, OnErr, IsTrue};
+ghost use Rattle.ct_vectors.specs.declared.limits.TheConstants.{GRADE_LIMIT, MOVE_LIMIT};
+
+use crate::handing::{helped, marked};
+use crate::log::Log;
+use crate::opening::{Opening, opened_above, shared};
+use crate::outcomes::{Committed, Next};
+use crate::queue::Queue;
+use crate::remainders::Remainder;
+use crate::tasks::Task;
+use ct_completion::{Act, Entry};
+use ct_instance::Instance;
+use ct_jobs::{Addition, Buckets};
+use ct_version::{Finished, Version};
+use ct_walk::Moves;
+use std::alloc::{AllocError, Global};
+use std::marker::Model;
+use std::sync::Arc;
+
+/// The completion of the test set of an instance, within a limit on the number of moves, with its journal.
+#[derive(Drop)]
+pub struct Book {
+    version: Arc<Version>,
+    limit: u32,
+    full: bool,
+    levels: Vec<Finished>,
+    buckets: Buckets,
+    queue: Queue,
+    log: Log,
+}
+
+impl Model for Book {
+    ghost use Rattle.std.specs.Arc.{arc_value};
+    ghost use Rattle.ct_book.specs.Books.{BookSeen};
+    ghost use Rattle.ct_book.specs.Insides.{book_in, IsBook};
+
+    ghost Value = { BookSeen };
+
+    ghost view = { λ b. book_in (record { version = arc_value b.version; limit = b.limit; full = b.full; levels = b.levels.items; jobs = b.buckets.jobs; queue = b.queue; log = b.log }) };
+
+    ghost invariant = { λ b. IsBook (record { version = arc_value b.version; limit = b.limit; full = b.full; levels = b.levels.items; jobs = b.buckets.jobs; queue = b.queue; log = b.log }) };
+}
+
+impl Book {
+    ghost use Rattle.std.specs.Arc.{arc_value};
+    ghost use Rattle.ct_completion.specs.Machine.{just_opened};
+    ghost use Rattle.ct_completion.specs.Journal.{entries_of, IsReplay};
+    ghost use Rattle.ct_version.specs.Desks.{IsOfPlace};
+    ghost use Rattle.ct_book.specs.Books.{edition_of, place_of, IsReadyBook, IsNext, IsCommitted, rise_of};
+
+    /// A book at version 0, with its grade opened and an empty journal, for an instance, a limit of 1 to 4,096 moves and
+    /// 1 to 33 passes. It is linear in the columns.
+    pub fn open(
+        alloc: Global,
+        inst: Arc<Instance>,
+        limit: u32,
+        passes: u32,
+    ) -> Result<Book, AllocError>
+        requires some { 1 ≤ limit }
+        requires most { limit ≤ MOVE_LIMIT }
+        requires some_pass { 1 ≤ passes }
+        requires passes { passes ≤ 33 }
+        ensures { IfOk result (λ b. b ≡ record { instance = arc_value inst; limit = limit; passes = passes; state = just_opened (arc_value inst) 0; journal = [] }) }
+    {
+        let buckets = Buckets::new(alloc, &inst)?;
+        let Opening { finished, queue } = opened_above(alloc, &buckets, &Addition::none(alloc), 0)?;
+        let log = room_for(alloc, passes, queue.len())?;
+        let levels = only(alloc, finished)?;
+        let version = shared(alloc, Version::new(Moves::new(alloc, inst), 0, finished))?;
+        let _number = version.number();
+        Ok(Book {
+            version,
+            limit,
+            full: false,
+            levels,
+            buckets,
+            queue,
+            log,
+        })
+    }
+
+    /// The number of the version.
+    pub fn number(&self) -> u64
+        ensures { result ≡ self.now.state.number }
+    {
+        self.version.number()
+    }
+
+    /// The version.
+    pub fn version(&self) -> &Arc<Version>
+        ensures version { arc_value result.now ≡ edition_of self.now }
+        ensures place { IsOfPlace (place_of self.now) (arc_value result.now) }
+    {
+        &self.version
+    }
+
+    /// The journal.
+    pub fn journal(&self) -> &[Entry]
+        ensures entries { result.now ≡ self.now.journal }
+        ensures replay { IsReplay self.now.instance self.now.limit self.now.journal self.now.state }
+    {
+        self.log.entries()
+    }
+
+    /// The number of entries of a pass.
+    pub fn entries(&self, pass: u32) -> u64
+        requires { pass < self.now.passes }
+        ensures { result ≡ entries_of pass self.now.journal }
+    {
+        self.log.count(pass)
+    }
+
+    /// Whether the next version can be published: a grade is open, all its jobs are resolved, and the book isn't marked
+    /// full.
+    pub fn is_ready(&self) -> bool
+        ensures { IsTrue result ↔ IsReadyBook self.now }
+    {
+        match self.version.finished() {
+            Finished::All => false,
+            Finished::Upto(_) => {
+                if self.full {
+                    return false;
+                }
+                self.queue.left() == 0
+            }
+        }
+    }
+
+    /// Takes a remainder in. It is stored, and written down in the journal, where its version is the book's and its job
+    /// isn't resolved; else nothing changes. It takes no memory, since the room was made when the grade was opened.
+    pub fn commit(&mut self, by: u32, r: Remainder) -> Committed
+        requires pass { by < self.old.passes }
+        requires instance { r.version.instance ≡ self.old.instance }
+        ensures answer { IsCommitted self.old by r self.new result }
+        ensures count { entries_of by self.new.journal ≡ entries_of by self.old.journal + rise_of result }
+        ensures others { (pass : ℕ) → (pass ≡ by → ⊥) → entries_of pass self.new.journal ≡ entries_of pass self.old.journal }
+    {
+        let number = self.version.number();
+        if r.number() != number {
+            return Committed::Already { number };
+        }
+        let place = r.place();
+        if self.queue.is_resolved(place) {
+            return Committed::Already { number };
+        }
+        let job = r.job();
+        self.queue.store(place, r.into_points());
+        let place = self.log.append(by, Act::Stored(job));
+        Committed::Stored { place }
+    }
+
+    /// Looks what is to be done up to the target, and hands out a job where one waits: the first that wasn't handed out
+    /// yet, or, where all were, the one that was handed out longest ago. It takes no memory, and can be refused only the
+    /// sharing of a version; then nothing has changed.
+    pub fn next(&mut self, target: u64) -> Result<Next, AllocError>
+        requires { target ≤ GRADE_LIMIT }
+        ensures answer { IfOk result (IsNext self.old target self.new) }
+        ensures refused { OnErr result (self.new ≡ self.old) }
+    {
+        if self.version.finished().covers(target) {
+            return Ok(Next::Reached(helped(&self.version, &self.levels, target)?));
+        }
+        if self.full {
+            return Ok(Next::Full(marked(&self.version)?));
+        }
+        if self.queue.left() == 0 {
+            return Ok(Next::Publish);
+        }
+        let version = Arc::try_clone(&self.version)?;
+        let (place, job) = self.queue.hand_out();
+        Ok(Next::Reduce(Task::new(version, place, job)))
+    }
+}
+
+// A journal with room for the entries that so many jobs can bring, and one more.
+fn room_for(alloc: Global, passes: u32, jobs: usize) -> Result<Log, AllocError>
+    requires { jobs < 2 ^ 63 }
+    ensures entries { IfOk result (λ l. l.entries ≡ []) }
+    ensures passes { IfOk result (λ l. l.passes ≡ passes) }
+    ensures room { IfOk result (λ l. jobs + 1 ≤ l.room) }
+{
+    let mut log = Log::new(alloc, passes)?;
+    log.reserve(jobs + 1)?;
+    Ok(log)
+}
+
+// The one level.
+fn only(alloc: Global, level: Finished) -> Result<Vec<Finished>, AllocError>
+    ensures { IfOk result (λ v. v.items ≡ level ∷ []) }
+{
+    let mut levels = Vec::new(alloc);
+    levels.push(level)?;
+    Ok(levels)
+}

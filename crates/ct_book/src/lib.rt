@@ -1,0 +1,19 @@
+//! The completion of a test set, grade by grade, with the journal of what was done.
+#![tactic(auto)]
+
+mod books;
+mod ends;
+mod handing;
+mod log;
+mod opening;
+mod outcomes;
+mod queue;
+mod reducing;
+mod remainders;
+mod tasks;
+
+pub use books::Book;
+pub use ct_completion::{Act, Entry};
+pub use outcomes::{Committed, Next, Published, Step};
+pub use remainders::Remainder;
+pub use tasks::Task;

@@ -1,0 +1,4 @@
+pub mod Known
+pub mod GroupMoves
+pub mod SortedPairs
+pub mod NewMoves

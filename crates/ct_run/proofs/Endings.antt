@@ -1,0 +1,73 @@
+-- What a run up to an ending or a stop says at the top call.
+use Rattle.std.proofs.Common.{◌≡◌, ℕ, ◌≤◌, true, List, [], Option, Result, Ok, Err, inl, inr, sym, ap, arith}
+use Rattle.std.specs.Prelude.{⊤}
+use Rattle.std.specs.Io.KnownBytes.{Appends}
+use Rattle.ct_outside.specs.Faults.{Rose}
+use Rattle.ct_outside.specs.Shelf.{Told}
+use Rattle.ct_outside.specs.Sink.{AppendsFront}
+use Rattle.ct_run.specs.declared.ending.Ending.{Ending}
+use Rattle.ct_run.specs.declared.status.Status.{Status}
+use Rattle.ct_run.specs.declared.status.Status.TheVariants as statuses
+use Rattle.ct_run.specs.declared.stop.Stop.{Stop}
+use Rattle.ct_run.specs.declared.stop.Stop.TheVariants.{ReadFault, Memory}
+use Rattle.ct_run.specs.Outcome.{Wrote, WroteFront, is_stop, IsUnlessStopped, IsUnlessMemory}
+use Rattle.ct_run.specs.Plan.{Plan}
+use Rattle.ct_run.specs.Running.{Ends, WouldEnd, ComesTo, Runs, HasReadFault, NoReadFault}
+use Rattle.ct_run.specs.Stopping.{Fits, StoppedBy, EndedBy, Ran, stop_status}
+use Rattle.ct_run.proofs.Runs.{ends-map, would_end, would_end-all, runs-ends, runs-cause, runs-others, runs-map}
+
+-- a later count rose over more calls, too
+pub stopped-along : (result : Result Ending Stop) (before mid now : ℕ) → before ≤ mid → StoppedBy result mid now → StoppedBy result before now
+stopped-along (Ok ending) before mid now up h = h
+stopped-along (Err ReadFault) before mid now up h = omega arith
+stopped-along (Err Memory) before mid now up h = tt
+
+module _ (plan : Plan) (told : List ℕ → Told) (before now : List ℕ → ℕ) where
+  came_to : (ending : Ending) → Ran plan told before now (Ok ending) → Ends plan told (λ outcome. Fits outcome ending)
+  came_to ending ran = runs-ends told before now (EndedBy (Ok ending)) (λ name. StoppedBy (Ok ending) (before name) (now name)) [] plan (λ name h. h) ran
+
+  pub whole_text : (ending : Ending) (old new : Option (List ℕ)) → Ran plan told before now (Ok ending) → Appends old new ending.text → Ends plan told (Wrote ending.status old new)
+  whole_text ending old new ran written =
+      ends-map plan told (λ outcome. Fits outcome ending) (Wrote ending.status old new) (λ outcome fits. (sym fits.0, (ending.text, (fits.1, written)))) (came_to ending ran)
+
+  pub text_front : (ending : Ending) (old new : Option (List ℕ)) → Ran plan told before now (Ok ending) → AppendsFront old new ending.text → Ends plan told (WroteFront old new)
+  text_front ending old new ran written =
+      ends-map plan told (λ outcome. Fits outcome ending) (WroteFront old new) (λ outcome fits. (ending.text, (fits.1, written))) (came_to ending ran)
+
+  pub exact_status : (ending : Ending) → Ran plan told before now (Ok ending) → WouldEnd plan told (IsUnlessStopped ending.status)
+  exact_status ending ran = would_end plan told (λ outcome. Fits outcome ending) (IsUnlessStopped ending.status) (λ outcome fits own. sym fits.0) (came_to ending ran)
+
+  pub complete_status : (ending : Ending) → Ran plan told before now (Ok ending) → WouldEnd plan told (IsUnlessMemory ending.status)
+  complete_status ending ran = would_end plan told (λ outcome. Fits outcome ending) (IsUnlessMemory ending.status) (λ outcome fits. inl (sym fits.0)) (came_to ending ran)
+
+  pub any_status : (status : Status) → is_stop status ≡ true → WouldEnd plan told (IsUnlessStopped status)
+  any_status status stops = would_end-all plan told (IsUnlessStopped status) (λ outcome own. absurd (cc))
+
+  pub stop_exactly : (stop : Stop) (status : Status) → status ≡ stop_status stop → WouldEnd plan told (IsUnlessStopped status)
+  stop_exactly ReadFault status same = any_status status (ap is_stop same)
+  stop_exactly Memory status same = any_status status (ap is_stop same)
+
+  stop_cause : Ran plan told before now (Err ReadFault) → HasReadFault plan told before now
+  stop_cause ran =
+      runs-map told before now (EndedBy (Err ReadFault)) (λ outcome. ⊥) (λ name. StoppedBy (Err ReadFault) (before name) (now name)) (λ name. Rose (before name) (now name)) [] plan
+      (λ outcome h. h) (λ name h. h) ran
+
+  pub read_fault_cause : (stop : Stop) (status : Status) → status ≡ stop_status stop → Ran plan told before now (Err stop) → status ≡ statuses.ReadFault → HasReadFault plan told before now
+  read_fault_cause ReadFault status same ran failed = stop_cause ran
+  read_fault_cause Memory status same ran failed = absurd (cc)
+
+  -- where no file that the plan comes to has a fault, want of memory is the one stop
+  pub stop_complete : (stop : Stop) (status : Status) → status ≡ stop_status stop → Ran plan told before now (Err stop) → NoReadFault plan told before now →
+      WouldEnd plan told (IsUnlessMemory status)
+  stop_complete ReadFault status same ran none =
+      let cause = runs-cause told before now (λ outcome. ⊥) (λ name. Rose (before name) (now name)) [] plan (λ outcome h. h) (stop_cause ran) in
+      absurd (none cause.0 cause.1.0 cause.1.1)
+  stop_complete Memory status same ran none = would_end-all plan told (IsUnlessMemory status) (λ outcome. inr same)
+
+  pub in_order : (result : Result Ending Stop) → Ran plan told before now result → Runs told before now (λ outcome. ⊤) (λ name. ⊤) plan
+  in_order result ran =
+      runs-map told before now (EndedBy result) (λ outcome. ⊤) (λ name. StoppedBy result (before name) (now name)) (λ name. ⊤) [] plan (λ outcome h. tt) (λ name h. tt) ran
+
+  pub kept_counts : (result : Result Ending Stop) → Ran plan told before now result → (name : List ℕ) → ¬ (ComesTo plan told name) → now name ≡ before name
+  kept_counts result ran name other =
+      runs-others told before now (EndedBy result) (λ name. StoppedBy result (before name) (now name)) [] plan name ran (λ h. h) other

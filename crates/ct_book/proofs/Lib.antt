@@ -6,3 +6,5 @@ pub mod Keeping
 pub mod LevelsSoFar
 pub mod FreshBooks
 pub mod OpeningGrades
+pub mod NextVersions
+pub mod ReadyBooks

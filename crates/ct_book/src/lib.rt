@@ -7,6 +7,7 @@ mod handing;
 mod log;
 mod opening;
 mod outcomes;
+mod publishing;
 mod queue;
 mod reducing;
 mod remainders;

@@ -8,3 +8,4 @@ pub mod FreshBooks
 pub mod OpeningGrades
 pub mod NextVersions
 pub mod ReadyBooks
+pub mod StepAnswers

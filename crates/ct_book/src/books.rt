@@ -5,7 +5,7 @@ ghost use Rattle.ct_vectors.specs.declared.limits.TheConstants.{GRADE_LIMIT, MOV
 use crate::handing::{helped, marked};
 use crate::log::Log;
 use crate::opening::{Opening, opened_above, shared};
-use crate::outcomes::{Committed, Next, Published};
+use crate::outcomes::{Committed, Next, Published, Step};
 use crate::publishing::{Following, moves_left, next_version};
 use crate::queue::Queue;
 use crate::remainders::Remainder;
@@ -47,8 +47,9 @@ impl Book {
     ghost use Rattle.std.specs.Arc.{arc_value};
     ghost use Rattle.ct_completion.specs.Machine.{just_opened};
     ghost use Rattle.ct_completion.specs.Journal.{entries_of, IsReplay};
+    ghost use Rattle.ct_version.specs.Editions.{IsEdition};
     ghost use Rattle.ct_version.specs.Desks.{IsOfPlace};
-    ghost use Rattle.ct_book.specs.Books.{edition_of, place_of, IsReadyBook, IsNext, IsCommitted, IsPublished, rise_of};
+    ghost use Rattle.ct_book.specs.Books.{edition_of, place_of, IsReadyBook, IsNext, IsCommitted, IsPublished, IsStep, IsRiseOf, CountsRise, rise_of};
 
     /// A book at version 0, with its grade opened and an empty journal, for an instance, a limit of 1 to 4,096 moves and
     /// 1 to 33 passes. It is linear in the columns.
@@ -91,6 +92,7 @@ impl Book {
     /// The version.
     pub fn version(&self) -> &Arc<Version>
         ensures version { arc_value result.now ≡ edition_of self.now }
+        ensures edition { IsEdition (edition_of self.now) }
         ensures place { IsOfPlace (place_of self.now) (arc_value result.now) }
     {
         &self.version
@@ -210,6 +212,27 @@ impl Book {
         self.queue = queue;
         self.version = following;
         Ok(Published::New(version))
+    }
+
+    /// Does the next step up to the target: what `next` says, and `publish` where that says so. For want of memory nothing
+    /// has changed.
+    pub fn step(&mut self, alloc: Global, by: u32, target: u64) -> Result<Step, AllocError>
+        requires pass { by < self.old.passes }
+        requires target { target ≤ GRADE_LIMIT }
+        ensures answer { IfOk result (IsStep self.old by target self.new) }
+        ensures refused { OnErr result (self.new ≡ self.old) }
+        ensures counts { IfOk result (λ s. (rise : ℕ) × IsRiseOf s rise × CountsRise by rise self.old self.new) }
+    {
+        let _version = self.version();
+        match self.next(target)? {
+            Next::Reached(helped) => Ok(Step::Reached(helped)),
+            Next::Full(mark) => Ok(Step::Full(mark)),
+            Next::Reduce(task) => Ok(Step::Reduce(task)),
+            Next::Publish => match self.publish(alloc, by)? {
+                Published::New(version) => Ok(Step::Published(version)),
+                Published::Full(mark) => Ok(Step::Full(mark)),
+            },
+        }
     }
 }
 

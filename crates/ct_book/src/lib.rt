@@ -1,6 +1,7 @@
 //! The completion of a test set, grade by grade, with the journal of what was done.
 #![tactic(auto)]
 
+mod benches;
 mod books;
 mod ends;
 mod handing;
@@ -13,6 +14,7 @@ mod reducing;
 mod remainders;
 mod tasks;
 
+pub use benches::Bench;
 pub use books::Book;
 pub use ct_completion::{Act, Entry};
 pub use outcomes::{Committed, Next, Published, Step};

@@ -1,16 +1,17 @@
 -- The check of the entries of a ledger, one by one.
-use Rattle.std.proofs.Common.{ℕ, ◌+◌, ◌≤◌, ◌<◌, ◌≡◌, Bool, true, false, cond, Option, Some, None, List, [], ◌∷◌, map, length, drop, get_or, refl, sym, subst, ap, ap₂, ◌∙◌, arith, zero, suc}
+use Rattle.std.proofs.Common.{ℕ, All, Contains, ◌+◌, ◌≤◌, ◌<◌, ◌≡◌, true, cond, Option, Some, None, List, [], ◌∷◌, map, length, drop, get_or, refl, sym, subst, ap, ap₂, ◌∙◌, arith, zero, suc}
 use Rattle.std.specs.Option.{option_or, option_map}
-use Rattle.std.proofs.lemmas.Bool.{cond-true, cond-false}
+use Rattle.std.proofs.lemmas.Bool.{cond-true}
 use Rattle.std.proofs.lemmas.List.{drop_more}
-use Rattle.ct_vectors.specs.Vectors.{total, zeros}
+use Rattle.std.proofs.lemmas.List.Elements.{Contains-get_or}
+use Rattle.ct_vectors.specs.Vectors.{total}
 use Rattle.ct_vectors.specs.declared.limits.TheConstants.{GRADE_LIMIT}
 use Rattle.ct_instance.specs.declared.jobs.Job.{Job}
-use Rattle.ct_instance.specs.Instance.{Problem, IsInstance, IsPoint, grade_of}
-use Rattle.ct_instance.specs.Fiber.{IsInFiber}
+use Rattle.ct_instance.specs.Instance.{Problem, IsPoint, grade_of}
 use Rattle.ct_instance.specs.TestSet.{Binomial}
-use Rattle.ct_instance.specs.Walk.{AreMoves}
-use Rattle.ct_instance.specs.Jobs.{IsJob, job_degree_of, first_end_of, second_end_of, IsCoprime}
+use Rattle.ct_instance.specs.Jobs.{first_end_of, second_end_of, jobs_up_to}
+use Rattle.ct_instance.proofs.Lists.{Contains-map}
+use Rattle.ct_instance.proofs.JobsList.{jobs_up_to_listed}
 use Rattle.ct_walk.specs.Moves.{MoveList, IsMoveList}
 use Rattle.ct_walk.proofs.MoveFacts.{are_moves}
 use Rattle.ct_walk.proofs.Ends.{ends_in_fiber}
@@ -22,7 +23,7 @@ use Rattle.ct_checker.specs.declared.verdicts.Reason.TheVariants.{Entry, Coprime
 use Rattle.ct_checker.specs.Accepted.{job_of}
 use Rattle.ct_checker.specs.Refusals.{same_job, is_coprime, end_of_steps, walks_reason, words_reason, entry_reason, refused_entry}
 use Rattle.ct_checker.specs.Checking.{IsJobWithin}
-use Rattle.ct_checker.proofs.Refusals.{same_job_test, coprime_test}
+use Rattle.ct_checker.proofs.Refusals.{same_job_test}
 
 -- ---- one entry
 
@@ -45,6 +46,14 @@ pub walks_wrong : (i : Problem) (ms : List Binomial) (j k : Job) (e : LedgerEntr
 walks_wrong i ms j k e first second f t =
     cond-true (same_job j (job_of e)) (words_reason i ms e) (Some Entry) (sym t) ∙ ap (words_reason i ms) f ∙
     ap (λ x. words_reason i ms (entry.Walks x first second)) (sym ((same_job_test j k).0 (sym (t ∙ ap (λ x. same_job j (job_of x)) f))))
+
+-- the jobs up to a grade within the limit may be walked from
+pub jobs_within : (i : Problem) (ms : List Binomial) (g : ℕ) (js : List GradedJob) → map (λ j. j.job) js ≡ jobs_up_to i ms g → g ≤ GRADE_LIMIT → All (λ j. IsJobWithin i ms j.job) js
+jobs_within i ms g js e l k d h =
+    let c : Contains (jobs_up_to i ms g) (get_or js k d).job =
+    subst (λ xs. Contains xs (get_or js k d).job) e (Contains-map (λ (j : GradedJob). j.job) js (get_or js k d) (Contains-get_or js k d h)) in
+    let u = ((jobs_up_to_listed i ms g).0 (get_or js k d).job).0 c in
+    record { job = u.0; grade = omega (arith, u.1) }
 
 -- ---- one after the other
 

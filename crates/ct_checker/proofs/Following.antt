@@ -1,10 +1,10 @@
 -- Steps that are followed in code, against where they lead.
-use Rattle.std.proofs.Common.{ℕ, ◌+◌, ◌≤◌, ◌<◌, ◌≡◌, Bool, true, false, cond, Option, Some, None, List, [], ◌∷◌, length, take, ap, subst, ◌∙◌, arith, zero, suc, refl}
+use Rattle.std.proofs.Common.{ℕ, ◌<◌, ◌≡◌, Some, None, List, [], ◌∷◌, length, take, subst, ◌∙◌, arith, zero, suc, refl}
 use Rattle.std.specs.List.{slice_get}
 use Rattle.std.proofs.lemmas.Bool.{cond-true, cond-false, false_from_ne_true}
-use Rattle.ct_instance.specs.Instance.{Problem, IsPoint}
+use Rattle.ct_instance.specs.Instance.{IsPoint}
 use Rattle.ct_instance.specs.TestSet.{Binomial}
-use Rattle.ct_instance.specs.Walk.{AreMoves, moved}
+use Rattle.ct_instance.specs.Walk.{moved}
 use Rattle.ct_instance.specs.Jobs.{the_move}
 use Rattle.ct_walk.specs.Moves.{MoveList, IsMoveList, CanApply, Follows, IsRefused}
 use Rattle.ct_walk.proofs.Steps.{leads_down}

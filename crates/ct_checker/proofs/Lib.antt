@@ -4,4 +4,5 @@ pub mod ByGrade
 pub mod Taking
 pub mod Following
 pub mod Entries
+pub mod WithinLimits
 pub mod Worked

@@ -1,13 +1,12 @@
 -- The check of the moves of a ledger, one by one.
-use Rattle.std.proofs.Common.{ℕ, ◌+◌, ◌≤◌, ◌<◌, ◌≡◌, Bool, true, not, nat_lt, cond, Option, Some, None, List, [], ◌∷◌, ◌++◌, map, length, take, drop, get_or, refl, sym, subst, ap, ap₂, ◌∙◌, arith, zero, suc}
+use Rattle.std.proofs.Common.{ℕ, ◌+◌, ◌≤◌, ◌<◌, ◌≡◌, Bool, not, nat_lt, cond, Option, Some, None, List, map, length, drop, get_or, ap, ◌∙◌}
 use Rattle.std.specs.Option.{option_or, option_map}
 use Rattle.std.proofs.lemmas.Bool.{cond-true, cond-false, lt-ltb, le-ltb, false_from_ne_true}
 use Rattle.std.proofs.lemmas.List.{drop_more}
 use Rattle.ct_order.specs.Order.{refined_order}
 use Rattle.ct_order.proofs.Order.{Less-from_test}
 use Rattle.ct_instance.specs.Instance.{Problem, column_count, degree_of, grade_of}
-use Rattle.ct_instance.specs.Fiber.{is_lower, IsBelow}
-use Rattle.ct_instance.specs.TestSet.{Binomial}
+use Rattle.ct_instance.specs.Fiber.{is_lower}
 use Rattle.ct_walk.specs.declared.faults.MoveFault.{MoveFault}
 use Rattle.ct_walk.specs.declared.faults.MoveFault.TheVariants as fault
 use Rattle.ct_walk.specs.Moves.{IsFault}

@@ -9,6 +9,10 @@ use Rattle.ct_ledger.specs.declared.entries.LedgerEntry.TheVariants as entry
 use Rattle.ct_ledger.specs.Parts.{LedgerParts}
 use Rattle.ct_checker.specs.Accepted.{moves_of, job_of}
 
+-- the head and the tail of a move
+abbrev pub pair_of : Binomial → List ℕ × List ℕ
+pair_of m = (m.head, m.tail)
+
 -- the steps are the walk of p by the list
 abbrev pub IsWalkOf : List Binomial → List ℕ → List (ℕ × ℕ) → Type 0
 IsWalkOf ms p steps = (end : List ℕ) × IsWalk ms p steps end

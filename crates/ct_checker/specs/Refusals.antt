@@ -34,12 +34,12 @@ is_coprime ms (Pair a b) = disjoint (the_move ms a).head (the_move ms b).head
 
 -- the step applies at p, as a test
 abbrev pub can_apply : List Binomial → List ℕ → ℕ × ℕ → Bool
-can_apply ms p step = nat_le 1 step.0 && nat_le step.0 (length ms) && nat_le 1 step.1 && divides (scale step.1 (the_move ms step.0).head) p
+can_apply ms p s = nat_le 1 s.0 && nat_le s.0 (length ms) && nat_le 1 s.1 && divides (scale s.1 (the_move ms s.0).head) p
 
 -- where the steps lead, if each applies
 abbrev pub end_of_steps : List Binomial → List ℕ → List (ℕ × ℕ) → Option (List ℕ)
 end_of_steps ms p [] = Some p
-end_of_steps ms p (step ∷ steps) = cond (can_apply ms p step) (end_of_steps ms (moved (the_move ms step.0) step.1 p) steps) None
+end_of_steps ms p (s ∷ steps) = cond (can_apply ms p s) (end_of_steps ms (moved (the_move ms s.0) s.1 p) steps) None
 
 -- what is wrong with a move, by the first that holds
 abbrev pub move_reason : Problem → ℕ → Binomial → Option Reason

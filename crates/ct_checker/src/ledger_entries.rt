@@ -46,10 +46,7 @@ pub fn check_entries(
         }
     }
     if entries.len() < jobs.len() {
-        return Err(CheckStop::Refused(
-            line + entries.len() as u64,
-            Reason::Entry,
-        ));
+        return Err(CheckStop::Refused(line + entries.len() as u64, Reason::Entry));
     }
     Ok(())
 }

@@ -5,11 +5,17 @@
 //! lemma each has exactly one point that no head divides, and it is the least (`laws`).
 #![tactic(auto)]
 
+mod certifying;
+mod checking;
 mod job_list;
 pub mod laws;
 mod ledger_entries;
 mod ledger_moves;
 mod stops;
+#[cfg(test)]
+mod tests;
 mod verdicts;
 
+pub use certifying::certify;
+pub use checking::check;
 pub use verdicts::{Reason, Verdict};

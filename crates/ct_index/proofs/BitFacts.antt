@@ -1,10 +1,11 @@
 -- The bits of rows, masks and candidates, one step of each loop.
-use Rattle.std.proofs.Common.{ℕ, ◌+◌, ◌-◌, ◌*◌, ◌/◌, ◌%◌, ◌^◌, ◌≤◌, ◌<◌, ◌≡◌, ◌≢◌, ◌⊎◌, ◌↔◌, inl, inr, ⊎_elim, min, max, List, [], length, get_or, refl, sym, ◌∙◌, subst, ap, arith, set}
-use Rattle.std.specs.Int.{bit_at, w128, bit_not}
+use Rattle.std.proofs.Common.{ℕ, ◌+◌, ◌-◌, ◌*◌, ◌/◌, ◌%◌, ◌^◌, ◌≤◌, ◌<◌, ◌≡◌, ◌≢◌, ◌⊎◌, ◌↔◌, inl, inr, ⊎_elim, min, max, List, [], length, get_or, refl, sym, ◌∙◌, subst, ap, arith, set, zero, suc}
+use Rattle.std.specs.Int.{bit_at, w128, trailing_zeros}
 use Rattle.std.specs.Int.RustNames.{bit_or}
 use lib.Bits.{bit_and}
-use Rattle.std.proofs.lemmas.Nat.{and_le_l}
-use Rattle.std.proofs.lemmas.Nat.Bits.{bit_at-lt, bit_at_or, bit_at_and, bit_at_set_same, bit_at_set_other, bit_at_clear_same, bit_at_clear_other, bit_at-zero}
+use Rattle.std.proofs.Math.Nat.{mod-lt}
+use Rattle.std.proofs.lemmas.Nat.{and_le_r, shr_split, pow_pos}
+use Rattle.std.proofs.lemmas.Nat.Bits.{bit_at-lt, bit_at_or, bit_at_and, bit_at_set_same, bit_at_set_other, bit_at-trailing_zeros, bit_at-zero, bit_at-suc, bit_at_cat_low, bit_at_cat_high, same_from_bits_below}
 use Rattle.std.proofs.lemmas.List.{get_or-set_same, get_or-set_other, get_or_past}
 use Rattle.std.proofs.lemmas.Bool.{cases_eq, cases_lt}
 use Rattle.ct_index.specs.Table.{IsAbove, IsExcluded, IsSupport, IsDecided, AreLow}
@@ -25,7 +26,7 @@ excluded_more rows places n out row is e = record {
   some = λ j b.
       let either : bit_at (bit_or out row) j ≡ max (bit_at out j) (bit_at row j) = bit_at_or out row j in
       elim (bit_cases out j) [
-        | inl zero ↦
+        | inl clear ↦
             let here : bit_at row j ≡ 1 = omega (arith, bit_at-lt row j) in
             (n, omega arith, sym (ap (λ x. bit_at x j) is) ∙ here)
         | inr one ↦ let s = e.some j one in (s.0, omega (arith, s.1), s.2)
@@ -119,10 +120,10 @@ pub support_none : (p : List ℕ) → IsSupportTo p 0 0
 support_none p i = (λ b. let z : bit_at 0 i ≡ 0 = bit_at-zero i in absurd (omega arith), λ x. absurd (omega (arith, x.0)))
 
 pub support_not : (p : List ℕ) (n mask : ℕ) → get_or p n 0 ≡ 0 → IsSupportTo p n mask → IsSupportTo p (n + 1) mask
-support_not p n mask zero s i = (
+support_not p n mask none s i = (
   λ b. let x = (s i).0 b in (omega (arith, x.0), x.1),
   λ x. elim (cases_eq i n) [
-    | inl same ↦ absurd (omega (arith, x.1, zero, ap (λ k. get_or p k 0) same))
+    | inl same ↦ absurd (omega (arith, x.1, none, ap (λ k. get_or p k 0) same))
     | inr other ↦ (s i).1 (omega (arith, x.0), x.1)
   ],
 )
@@ -150,21 +151,67 @@ support_all p n mask l s i = (
 
 -- ---- the bits left to try
 
--- clearing a bit that is set makes the number smaller
-pub cleared_smaller : (n j : ℕ) → j < 128 → bit_at n j ≡ 1 → bit_and n (bit_not w128 (1 * 2 ^ j % 2 ^ 128)) < n
-cleared_smaller n j small one =
-    let le : bit_and n (bit_not w128 (1 * 2 ^ j % 2 ^ 128)) ≤ n = and_le_l n (bit_not w128 (1 * 2 ^ j % 2 ^ 128)) in
-    let differ : bit_and n (bit_not w128 (1 * 2 ^ j % 2 ^ 128)) ≡ n → ⊥ = λ e.
-    let z : bit_at (bit_and n (bit_not w128 (1 * 2 ^ j % 2 ^ 128))) j ≡ 0 = bit_at_clear_same w128 n j small in
-    let same : bit_at (bit_and n (bit_not w128 (1 * 2 ^ j % 2 ^ 128))) j ≡ bit_at n j = ap (λ x. bit_at x j) e in
-    omega arith in
-    elim (cases_eq (bit_and n (bit_not w128 (1 * 2 ^ j % 2 ^ 128))) n) [ inl same ↦ absurd (differ same) | inr other ↦ omega arith ]
+-- the lowest bit of a number that isn't 0 is the one with this index
+pub record IsLowest (n j : ℕ) : Type 0 where
+  pub below : j < 128
+  pub set : bit_at n j ≡ 1
+  pub none : (i : ℕ) → i < j → bit_at n i ≡ 0
 
--- and leaves the other bits
-pub cleared_set : (n j : ℕ) → j < 128 → (i : ℕ) → bit_at (bit_and n (bit_not w128 (1 * 2 ^ j % 2 ^ 128))) i ≡ 1 → bit_at n i ≡ 1
-cleared_set n j small i one =
-    let both : bit_at (bit_and n (bit_not w128 (1 * 2 ^ j % 2 ^ 128))) i ≡ min (bit_at n i) (bit_at (bit_not w128 (1 * 2 ^ j % 2 ^ 128)) i) = bit_at_and n (bit_not w128 (1 * 2 ^ j % 2 ^ 128)) i in
+pub lowest : (n : ℕ) → 0 < n → n < 2 ^ 128 → IsLowest n (trailing_zeros w128 n)
+lowest n some fits = let low = bit_at-trailing_zeros w128 n some fits in record { below = low.0; set = low.1; none = low.2 }
+
+-- what is left without it is smaller, and has no bit more
+pub cleared_smaller : (n : ℕ) → 0 < n → bit_and n (n - 1) < n
+cleared_smaller n some = let le : bit_and n (n - 1) ≤ n - 1 = and_le_r n (n - 1) in omega arith
+
+pub cleared_set : (n i : ℕ) → bit_at (bit_and n (n - 1)) i ≡ 1 → bit_at n i ≡ 1
+cleared_set n i one =
+    let both : bit_at (bit_and n (n - 1)) i ≡ min (bit_at n i) (bit_at (n - 1) i) = bit_at_and n (n - 1) i in
     omega (arith, bit_at-lt n i)
+
+half : (m : ℕ) → m % 2 ≡ 1 → (m - 1) / 2 ≡ m / 2
+half m odd = omega arith
+
+-- and each other bit: n is m * 2 ^ j with m odd, and n - 1 is (m - 1) * 2 ^ j + (2 ^ j - 1)
+pub cleared_kept : (n j : ℕ) → IsLowest n j → (i : ℕ) → i ≢ j → bit_at n i ≡ 1 → bit_at (bit_and n (n - 1)) i ≡ 1
+cleared_kept n j low i other one =
+    let both : bit_at (bit_and n (n - 1)) i ≡ min (bit_at n i) (bit_at (n - 1) i) = bit_at_and n (n - 1) i in
+    let lesser : bit_at (n - 1) i ≡ 1 = above (i - j - 1) (omega (arith, later)) in
+    omega arith
+  where
+    later : j < i
+    later = elim (cases_lt i j) [ inl l ↦ absurd (omega (arith, low.none i l)) | inr l ↦ omega arith ]
+
+    m : ℕ
+    m = n / 2 ^ j
+
+    rest : n % 2 ^ j ≡ 0
+    rest = same_from_bits_below j (n % 2 ^ j) 0 (mod-lt n (pow_pos j)) (pow_pos j) (λ k l.
+        sym (bit_at_cat_low (n / 2 ^ j) j (n % 2 ^ j) k l) ∙ ap (λ x. bit_at x k) (shr_split n j) ∙ low.none k l ∙ sym (bit_at-zero k))
+
+    whole : n ≡ n / 2 ^ j * 2 ^ j + 0
+    whole = sym (shr_split n j) ∙ ap (λ r. n / 2 ^ j * 2 ^ j + r) rest
+
+    odd : (n / 2 ^ j) % 2 ≡ 1
+    odd = low.set
+
+    less : n - 1 ≡ (n / 2 ^ j - 1) * 2 ^ j + (2 ^ j - 1)
+    less = minus (n / 2 ^ j) (2 ^ j) n (pow_pos j) (omega (arith, odd)) (omega (arith, whole))
+      where
+        minus : (a b n : ℕ) → 0 < b → 0 < a → n ≡ a * b → n - 1 ≡ (a - 1) * b + (b - 1)
+        minus zero b n some pos e = absurd (omega arith)
+        minus (suc a) b n some pos e =
+            let less : suc a - 1 ≡ a = omega arith in
+            let whole : n ≡ a * b + b = omega arith in
+            subst (λ (x : ℕ). n - 1 ≡ x * b + (b - 1)) (sym less) (omega arith)
+
+    above : (k : ℕ) → i ≡ j + suc k → bit_at (n - 1) i ≡ 1
+    above k at =
+        let gap : i - j ≡ suc k = omega arith in
+        let small : 2 ^ j - 1 < 2 ^ j = omega (arith, pow_pos j) in
+        let here : bit_at n i ≡ bit_at (n / 2 ^ j) (suc k) = ap (λ x. bit_at x i) whole ∙ bit_at_cat_high (n / 2 ^ j) j 0 i (pow_pos j) (omega arith) ∙ ap (bit_at (n / 2 ^ j)) gap in
+        ap (λ x. bit_at x i) less ∙ bit_at_cat_high (n / 2 ^ j - 1) j (2 ^ j - 1) i small (omega arith) ∙ ap (bit_at (n / 2 ^ j - 1)) gap ∙
+        bit_at-suc (n / 2 ^ j - 1) k ∙ ap (λ x. bit_at x k) (half (n / 2 ^ j) odd) ∙ sym (bit_at-suc (n / 2 ^ j) k) ∙ sym here ∙ one
 
 -- ---- the heads that the table decides
 

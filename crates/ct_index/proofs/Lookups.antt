@@ -3,14 +3,14 @@ use Rattle.std.proofs.Common.{ℕ, ◌+◌, ◌-◌, ◌*◌, ◌/◌, ◌%◌, 
 use Rattle.std.specs.Int.{bit_at, w128, bit_not}
 use Rattle.std.specs.List.{position, position_or_len}
 use lib.Bits.{bit_and}
-use Rattle.std.proofs.lemmas.Nat.Bits.{bit_at-lt, bit_at_not, bit_at_above, bit_at_clear_same, bit_at_clear_other}
+use Rattle.std.proofs.lemmas.Nat.Bits.{bit_at-lt, bit_at_not}
 use Rattle.std.proofs.lemmas.List.{get_or_default, get_or_past, get_or-map, length-map}
 use Rattle.std.proofs.lemmas.List.Sums.{position_or_len_is}
 use Rattle.std.proofs.lemmas.Bool.{cases_lt, cases_eq}
 use Rattle.ct_vectors.specs.Vectors.{Divides, divides}
 use Rattle.ct_vectors.proofs.Divisors.{Divides-from_test, test_from_Divides, Divides-at, Divides-from_at}
 use Rattle.ct_index.specs.Table.{IsPast, IsAbove, row_count, IsTable, row_of, ArePlaces, IsExcluded, AreLow, LacksSome, LeavesOut, AreDecided}
-use Rattle.ct_index.proofs.BitFacts.{bit_cases, cleared_set}
+use Rattle.ct_index.proofs.BitFacts.{bit_cases, IsLowest, cleared_set, cleared_kept}
 
 -- ---- one head at the rows of a point
 
@@ -144,18 +144,17 @@ pub record Trying (heads : List (List ℕ)) (p : List ℕ) (decided left : ℕ) 
   pub others : LeavesOut heads p left
   pub decides : AreDecided heads p left decided
 
--- the candidate j doesn't divide p
-pub trying_more : (heads : List (List ℕ)) (p : List ℕ) (decided left j : ℕ) → left < 2 ^ 128 → j < 128 → divides (get_or heads j []) p ≡ false → Trying heads p decided left →
-    Trying heads p decided (bit_and left (bit_not w128 (1 * 2 ^ j % 2 ^ 128)))
-trying_more heads p decided left j fits small false_there t = record {
+-- the lowest candidate doesn't divide p
+pub trying_more : (heads : List (List ℕ)) (p : List ℕ) (decided left j : ℕ) → IsLowest left j → divides (get_or heads j []) p ≡ false → Trying heads p decided left → Trying heads p decided (bit_and left (left - 1))
+trying_more heads p decided left j low false_there t = record {
   others = λ i l z. elim (cases_eq i j) [
     | inl same ↦ subst (λ (k : ℕ). divides (get_or heads k []) p ≡ false) (sym same) false_there
-    | inr other ↦ elim (cases_lt i 128) [
-      | inl low ↦ t.others i l (sym (bit_at_clear_other w128 left j small i low other) ∙ z)
-      | inr high ↦ t.others i l (bit_at_above left 128 i fits high)
+    | inr other ↦ elim (bit_cases left i) [
+      | inl clear ↦ t.others i l clear
+      | inr set ↦ absurd (let kept : bit_at (bit_and left (left - 1)) i ≡ 1 = cleared_kept left j low i other set in omega arith)
     ]
   ];
-  decides = λ i l one d. t.decides i l (cleared_set left j small i one) d;
+  decides = λ i l one d. t.decides i l (cleared_set left i one) d;
 }
 
 -- the lowest candidate divides p

@@ -1,13 +1,13 @@
 //! A block: up to 128 values with heads, with the index of their heads.
-ghost use Rattle.std.specs.Prelude.{◌≡◌, ◌≤◌, ◌<◌, [], ◌∷◌, ◌++◌, length, map, All, OnOk, IfErr, IfOk, IsTrue, ◌↔◌};
+ghost use Rattle.std.specs.Prelude.{◌≡◌, ◌≤◌, ◌<◌, [], ◌∷◌, ◌++◌, length, map, All, OnOk, IfErr, IfOk, IsTrue, ◌↔◌, slice_index_or};
 ghost use Rattle.std.specs.List.{position};
-ghost use Rattle.ct_vectors.specs.Vectors.{divides};
+ghost use Rattle.ct_vectors.specs.Vectors.{divides, total, IsTimes};
 ghost use Rattle.ct_index.specs.Table.{ArePlaces, LeavesOut, AreDecided};
 
 use crate::bits::HeadBits;
 use crate::headed::HasHead;
 use crate::places::Places;
-use crate::support::lacks;
+use crate::support::{lacks, times_over};
 use crate::table::excluded;
 use ct_point::Point;
 use std::alloc::{AllocError, Global};
@@ -107,6 +107,17 @@ impl<T: HasHead> HeadBlock<T> {
         let allowed = !excluded(&self.bits.rows, places.as_slice());
         first_among(&self.items, p, allowed, self.bits.decided)
     }
+
+    /// How many times the head of the value with this index, from 0, fits into p.
+    pub fn times_in(&self, index: usize, p: &Point) -> u64
+        requires within { index < length self.now }
+        requires width { (t : T) → length (T.head_of (slice_index_or self.now index t)) ≡ length p.now }
+        requires positive { (t : T) → 1 ≤ total (T.head_of (slice_index_or self.now index t)) }
+        ensures { (t : T) → IsTimes (T.head_of (slice_index_or self.now index t)) p.now result }
+    {
+        let head = self.items[index].head().as_slice();
+        times_over(self.bits.supports[index], head, p.as_slice())
+    }
 }
 
 // The index of the first value whose head is at most p. Only those with a bit in `allowed` can be, and of these each with
@@ -126,7 +137,7 @@ fn first_among<T: HasHead>(items: &[T], p: &Point, allowed: u128, decided: u128)
         if (decided >> j) & 1 == 1 || items[j as usize].head().divides(p) {
             return Some(j as usize);
         }
-        left &= !(1u128 << j);
+        left &= left - 1;
     }
     None
 }

@@ -62,7 +62,8 @@ impl HeadIndex {
         requires { All (λ h. length h ≡ length p.now) self.now }
         ensures { result ≡ option_map suc (position (λ h. divides h p.now) self.now) }
     {
-        let places = Places::of(p);
+        let mut places = Places::new();
+        places.look_at(p);
         for k in 0..self.blocks.len() {
             if let Some(j) = self.blocks[k].first_dividing(p, &places) {
                 return Some((BLOCK_SIZE * k + j) as u32 + 1);

@@ -1,8 +1,8 @@
 //! Where a point is looked up.
-ghost use Rattle.std.specs.Prelude.{◌≡◌, ◌+◌, ◌*◌, ◌≤◌, ◌<◌, min, length, slice_index};
-ghost use Rattle.ct_index.specs.Table.{ArePlaces};
+ghost use Rattle.std.specs.Prelude.{◌≡◌, ◌+◌, ◌*◌, ◌/◌, ◌≤◌, ◌<◌, [], ℕ, min, length, slice_index};
+ghost use Rattle.ct_index.specs.Table.{ArePlaces, row_of};
 
-use crate::table::{LEVELS, PAIR_ROWS, exponent};
+use crate::table::{LEVELS, PAIR_ROWS};
 use ct_point::Point;
 use std::marker::Model;
 
@@ -29,17 +29,23 @@ impl Model for Places {
 }
 
 impl Places {
-    /// The places of this point.
-    pub fn of(p: &Point) -> Places
-        ensures { ArePlaces p.now result }
+    /// No places.
+    pub fn new() -> Places
+        ensures { result ≡ [] }
+    {
+        Places {
+            rows: [0; MOST],
+            len: 0,
+        }
+    }
+
+    /// Takes the places of this point, in place of those before. It is linear in the width.
+    pub fn look_at(&mut self, p: &Point)
+        ensures { ArePlaces p.now self.new }
     {
         let p = p.as_slice();
-        let mut rows = [0u16; MOST];
-        let len = p.len().div_ceil(2);
-        for q in 0..len {
-            rows[q] = place(p, q);
-        }
-        Places { rows, len }
+        self.len = p.len().div_ceil(2);
+        write(&mut self.rows, p);
     }
 
     // The rows in order.
@@ -50,14 +56,27 @@ impl Places {
     }
 }
 
-// The row of the coordinates 2 q and 2 q + 1.
-fn place(p: &[u64], q: usize) -> u16
-    requires { q < 40 }
-    ensures { result ≡ 16 * q + 4 * min (slice_index p.now (2 * q)) 3 + min (slice_index p.now (2 * q + 1)) 3 }
+// Writes the rows of a point to the front.
+fn write(rows: &mut [u16], p: &[u64])
+    requires room { length rows.old ≡ 40 }
+    requires width { length p.now ≤ 80 }
+    ensures { (q : ℕ) → q < (length p.now + 1) / 2 → slice_index rows.new q ≡ row_of p.now q }
 {
-    let first = level(exponent(p, 2 * q));
-    let second = level(exponent(p, 2 * q + 1));
-    (PAIR_ROWS * q + LEVELS * first + second) as u16
+    let pairs = p.len() / 2;
+    for q in 0..pairs {
+        rows[q] = place(q, p[2 * q], p[2 * q + 1]);
+    }
+    if p.len() % 2 == 1 {
+        rows[pairs] = place(pairs, p[2 * pairs], 0);
+    }
+}
+
+// The row of two exponents of the pair with this index.
+fn place(q: usize, first: u64, second: u64) -> u16
+    requires { q < 40 }
+    ensures { result ≡ 16 * q + 4 * min first 3 + min second 3 }
+{
+    (PAIR_ROWS * q + LEVELS * level(first) + level(second)) as u16
 }
 
 // The level of an exponent.

@@ -1,5 +1,6 @@
 //! The support of a point as a mask: the bit of each coordinate that isn't 0.
-ghost use Rattle.std.specs.Prelude.{◌≡◌, ◌≤◌, length, IsTrue};
+ghost use Rattle.std.specs.Prelude.{◌≡◌, ◌/◌, ◌≤◌, length, IsTrue};
+ghost use Rattle.ct_vectors.specs.Vectors.{total, IsTimes};
 ghost use Rattle.ct_index.specs.Table.{IsSupport, LacksSome};
 
 // The support.
@@ -26,7 +27,40 @@ pub fn lacks(mask: u128, p: &[u64]) -> bool
         if i >= p.len() || p[i] == 0 {
             return true;
         }
-        left &= !(1u128 << i);
+        left &= left - 1;
     }
     false
+}
+
+// How many times a head with this support fits into p. Only coordinates of the support are looked at.
+pub fn times_over(support: u128, head: &[u64], p: &[u64]) -> u64
+    requires support { IsSupport head.now support }
+    requires width { length head.now ≡ length p.now }
+    requires positive { 1 ≤ total head.now }
+    ensures { IsTimes head.now p.now result }
+{
+    let mut times = u64::MAX;
+    let mut left = support;
+    while left != 0 {
+        let i = left.trailing_zeros() as usize;
+        times = times.min(quotient(p[i], head[i]));
+        left &= left - 1;
+    }
+    times
+}
+
+// The quotient, by a division only where it is above 1 and the divisor too.
+fn quotient(x: u64, by: u64) -> u64
+    requires { 1 ≤ by }
+    ensures { result ≡ x / by }
+{
+    if by == 1 {
+        x
+    } else if x < by {
+        0
+    } else if x - by < by {
+        1
+    } else {
+        x / by
+    }
 }

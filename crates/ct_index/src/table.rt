@@ -48,7 +48,7 @@ fn is_past(level: usize, exponent: u64) -> bool
 }
 
 // The coordinate with this index, and 0 where there is none.
-pub fn exponent(p: &[u64], i: usize) -> u64
+fn exponent(p: &[u64], i: usize) -> u64
     ensures { result ≡ slice_index p.now i }
 {
     if i < p.len() { p[i] } else { 0 }

@@ -1,9 +1,15 @@
 //! A ledger as a value.
-ghost use Rattle.std.specs.Prelude.{◌≡◌, ◌≤◌, ◌<◌, [], ◌∷◌, ◌++◌, length, OnOk, OnErr};
+ghost use Rattle.std.specs.Prelude.{◌≡◌, ◌≤◌, ◌<◌, [], ◌∷◌, ◌++◌, length, OnOk, OnErr, IfOk};
+ghost use Rattle.ct_lines.specs.FaultLine.{IsFaultLine};
 ghost use Rattle.ct_vectors.specs.declared.limits.TheConstants.{ROW_LIMIT, COLUMN_LIMIT, GRADE_LIMIT, MOVE_LIMIT};
 ghost use Rattle.ct_ledger.specs.Parts.{IsLedger, IsLedgerPoint, IsEntry};
+ghost use Rattle.ct_ledger.specs.LedgerText.{ledger_text, IsLedgerText};
+ghost use Rattle.ct_ledger.specs.Stops.{AtFault};
 
 use crate::entries::LedgerEntry;
+use crate::print::{push_entries, push_head, push_moves};
+use crate::reading::ledger_of;
+use crate::stop::LedgerStop;
 use ct_point::Point;
 use std::alloc::{AllocError, Global};
 use std::marker::Model;
@@ -101,5 +107,29 @@ impl Ledger {
         ensures ledger { IsLedger self.now }
     {
         self.entries.as_slice()
+    }
+
+    /// The text of the ledger, made in one buffer: linear in its length.
+    pub fn print(&self, alloc: Global) -> Result<Vec<u8>, AllocError>
+        ensures text { IfOk result (λ text. text.items ≡ ledger_text self.now) }
+        ensures ledger { IsLedger self.now }
+    {
+        let (rows, columns) = self.size();
+        let mut out = Vec::new(alloc);
+        push_head(&mut out, rows, columns, self.grade())?;
+        push_moves(&mut out, self.moves())?;
+        push_entries(&mut out, self.entries())?;
+        out.extend_from_slice(b"end\n")?;
+        Ok(out)
+    }
+
+    /// The ledger that has this text. It goes once over the bytes, and takes the memory of the ledger.
+    pub fn read(alloc: Global, bytes: &[u8]) -> Result<Ledger, LedgerStop>
+        ensures ok { IfOk result (λ l. IsLedger l × (bytes.now ≡ ledger_text l)) }
+
+        // The bytes are then the text of no ledger, and this is the first line at fault.
+        ensures fault { AtFault (IsFaultLine IsLedgerText bytes.now) result }
+    {
+        ledger_of(alloc, bytes)
     }
 }

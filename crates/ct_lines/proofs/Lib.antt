@@ -3,3 +3,4 @@ pub mod TextLines
 pub mod Spelling
 pub mod Machines
 pub mod Printed
+pub mod LineLoop

@@ -12,8 +12,9 @@ use Rattle.ct_text.specs.declared.number.NumberFault.{NumberFault}
 use Rattle.ct_text.specs.Numbers.{natural_of}
 use Rattle.ct_text.specs.Pieces.{split}
 use Rattle.ct_text.specs.PiecesLaw.{lacks}
-use Rattle.ct_text.proofs.Decimals.{AreDigits, decimal_is_digits, decimal_from_natural, natural_from_decimal}
-use Rattle.ct_text.proofs.Splits.{join-split, split-join}
+use Rattle.ct_text.proofs.Decimals.{AreDigits, decimal_is_digits, decimal_some, decimal_from_natural, natural_from_decimal}
+use Rattle.ct_text.proofs.Splits.{Lack, join-split, split-join}
+use Rattle.ct_lines.proofs.TextLines.{IsSpelled, lacks-append}
 use Rattle.ct_lines.specs.Texts.{IsStep, step_word, walk_words}
 use Rattle.ct_lines.specs.Reading.{◌>>=◌, is_next, word_left, at_least, number_of, number_left, numbers_left, step_in_parts, step_of, first_step, steps_left, some_steps, walk_left}
 use Rattle.ct_lines.specs.Wording.{Wording, done, barred, word, number, numbers, walk, fork, read, Spells}
@@ -126,10 +127,10 @@ unfolding step_of
 step_of_word step h =
     let parts : split 42 (step_word step) ≡ decimal step.0 ∷ decimal step.1 ∷ [] =
     split-join 42 (decimal step.0 ∷ decimal step.1 ∷ []) (λ none. cc) (decimal-lacks 42 step.0 (lit< tt) (omega arith), (decimal-lacks 42 step.1 (lit< tt) (omega arith), tt)) in
-    rw (parts, number_of_decimal 1 MOVE_LIMIT step.0 (lit< tt) h.0 h.1, number_of_decimal 1 GRADE_LIMIT step.1 (lit< tt) h.2 h.3) refl
+    rw (parts, number_of_decimal 1 MOVE_LIMIT step.0 (lit< tt) h.0.0 h.0.1, number_of_decimal 1 GRADE_LIMIT step.1 (lit< tt) h.1.0 h.1.1) refl
 
 step_joined : (w a b : List ℕ) (n t : ℕ) (step : ℕ × ℕ) → w ≡ a ++ (42 ∷ b) → (a ≡ decimal n) × (1 ≤ n) × (n ≤ MOVE_LIMIT) → (b ≡ decimal t) × (1 ≤ t) × (t ≤ GRADE_LIMIT) → (n, t) ≡ step → (w ≡ step_word step) × IsStep step
-step_joined w a b n t step whole of_move of_times is = rw (← is) (whole ∙ rw (of_move.0, of_times.0) refl, (of_move.1, of_move.2, of_times.1, of_times.2))
+step_joined w a b n t step whole of_move of_times is = rw (← is) (whole ∙ rw (of_move.0, of_times.0) refl, ((of_move.1, of_move.2), (of_times.1, of_times.2)))
 
 step_parts : (w : List ℕ) (parts : List (List ℕ)) (step : ℕ × ℕ) → split 42 w ≡ parts → step_in_parts parts ≡ Some step → (w ≡ step_word step) × IsStep step
 step_parts w [] step is e = absurd cc
@@ -152,12 +153,13 @@ step_of_parts w step e = step_parts w (split 42 w) step refl e
 and_left : (x y : Bool) → x ≡ false → (x && y) ≡ false
 and_left x y e = rw e refl
 
-no_dash : (step : ℕ × ℕ) (words : List (List ℕ)) → IsStep step → is_next (codes "-") (step_word step ∷ words) ≡ false
-no_dash step words h = differs (decimal step.0) (decimal_is_digits step.0 (omega arith))
+-- a word that begins with no digit is no step
+pub no_step_word : (byte : ℕ) (others : List ℕ) (step : ℕ × ℕ) (words : List (List ℕ)) → 57 < byte ⊎ byte < 48 → IsStep step → is_next (byte ∷ others) (step_word step ∷ words) ≡ false
+no_step_word byte others step words out h = differs (decimal step.0) (decimal_is_digits step.0 (omega arith)) (decimal_some step.0 (omega arith))
   where
-    differs : (ds : List ℕ) → AreDigits ds → bytes_eq (ds ++ (42 ∷ decimal step.1)) (codes "-") ≡ false
-    differs [] d = refl
-    differs (x ∷ ds) d = and_left (eqb x 45) (bytes_eq (ds ++ (42 ∷ decimal step.1)) []) (digit_is 45 x (inr (lit< tt)) (both (is_ascii_digit x) (list_all is_ascii_digit ds) d).0)
+    differs : (ds : List ℕ) → AreDigits ds → 0 < length ds → bytes_eq (ds ++ (42 ∷ decimal step.1)) (byte ∷ others) ≡ false
+    differs [] d some = absurd (omega arith)
+    differs (x ∷ ds) d some = and_left (eqb x byte) (bytes_eq (ds ++ (42 ∷ decimal step.1)) others) (digit_is byte x out (both (is_ascii_digit x) (list_all is_ascii_digit ds) d).0)
 
 steps_of : (steps : List (ℕ × ℕ)) (rest : List (List ℕ)) → AllByRecursion IsStep steps → first_step rest ≡ None → steps_left (map step_word steps ++ rest) ≡ (steps, rest)
 steps_of [] rest h none = no_step_parts rest none
@@ -166,7 +168,7 @@ steps_of (step ∷ steps) rest h none = rw (step_of_word step h.0, steps_of step
 walk_of : (steps : List (ℕ × ℕ)) (rest : List (List ℕ)) → AllByRecursion IsStep steps → (steps ≡ []) ⊎ (first_step rest ≡ None) → walk_left (walk_words steps ++ rest) ≡ Some (steps, rest)
 walk_of [] rest h ends = refl
 walk_of (step ∷ steps) rest h (inl none) = absurd cc
-walk_of (step ∷ steps) rest h (inr ends) = rw (no_dash step (map step_word steps ++ rest) h.0, steps_of (step ∷ steps) rest h ends) refl
+walk_of (step ∷ steps) rest h (inr ends) = rw (no_step_word 45 [] step (map step_word steps ++ rest) (inr (lit< tt)) h.0, steps_of (step ∷ steps) rest h ends) refl
 
 -- the steps that stand next, and what follows them
 record AreSteps (words : List (List ℕ)) (found : List (ℕ × ℕ) × List (List ℕ)) : Type 0 where
@@ -258,3 +260,43 @@ read_from_spells (numbers count high next) words y f (ns, rest, is, many, below,
 read_from_spells (walk next) words y f (steps, rest, is, all, ends, h) = rw (is, walk_of steps rest all ends) (read_from_spells (next steps) rest y (f steps) h)
 read_from_spells (fork w first second) words y f (inl (rest, is, h)) = rw (is, itself w) (read_from_spells first rest y f.0 h)
 read_from_spells (fork w first second) words y f (inr (other, h)) = rw other (read_from_spells second words y f.1 h)
+
+-- ---- words of a line: no space and no LF stands in them
+
+abbrev pub IsWord : List ℕ → Type 0
+IsWord w = (lacks 32 w ≡ true) × (lacks 10 w ≡ true)
+
+abbrev pub AreWords : List (List ℕ) → Type 0
+AreWords words = AllByRecursion IsWord words
+
+pub words_append : (xs ys : List (List ℕ)) → AreWords xs → AreWords ys → AreWords (xs ++ ys)
+words_append [] ys h k = k
+words_append (x ∷ xs) ys h k = (h.0, words_append xs ys h.1 k)
+
+pub word_decimal : (n : ℕ) → n < 10 ^ 64 → IsWord (decimal n)
+word_decimal n fits = (decimal-lacks 32 n (lit< tt) fits, decimal-lacks 10 n (lit< tt) fits)
+
+pub words_numbers : (high : ℕ) (ns : List ℕ) → high < 2 ^ 64 → AllByRecursion (λ n. n ≤ high) ns → AreWords (map decimal ns)
+words_numbers high [] small h = tt
+words_numbers high (n ∷ ns) small h = (word_decimal n (omega (arith, h.0)), words_numbers high ns small h.1)
+
+word_step : (step : ℕ × ℕ) → IsStep step → IsWord (step_word step)
+word_step step h =
+    let n = word_decimal step.0 (omega (arith, h.0)) in
+    let t = word_decimal step.1 (omega (arith, h.1)) in
+    (lacks-append 32 (decimal step.0) (42 ∷ decimal step.1) n.0 t.0, lacks-append 10 (decimal step.0) (42 ∷ decimal step.1) n.1 t.1)
+
+words_steps : (steps : List (ℕ × ℕ)) → AllByRecursion IsStep steps → AreWords (map step_word steps)
+words_steps [] h = tt
+words_steps (step ∷ steps) h = (word_step step h.0, words_steps steps h.1)
+
+pub words_walk : (steps : List (ℕ × ℕ)) → AllByRecursion IsStep steps → AreWords (walk_words steps)
+words_walk [] h = ((refl, refl), tt)
+words_walk (step ∷ steps) h = words_steps (step ∷ steps) h
+
+words_lack : (words : List (List ℕ)) → AreWords words → Lack 32 words × Lack 10 words
+words_lack [] h = (tt, tt)
+words_lack (w ∷ words) h = let others = words_lack words h.1 in ((h.0.0, others.0), (h.0.1, others.1))
+
+pub spelled_line : (w : List ℕ) (words : List (List ℕ)) → AreWords (w ∷ words) → IsSpelled (w ∷ words)
+spelled_line w words h = let lack = words_lack (w ∷ words) h in record { some = λ none. cc; spaces = lack.0; ends = lack.1 }

@@ -81,7 +81,7 @@ some_steps (step ∷ steps, words) = Some (step ∷ steps, words)
 abbrev pub walk_left : List (List ℕ) → Option (List (ℕ × ℕ) × List (List ℕ))
 walk_left words = if is_next (codes "-") words then Some ([], drop 1 words) else some_steps (steps_left words)
 
--- the value of a line that ends here
-abbrev pub end_at : {A : Type 0} → A → List (List ℕ) → Option A
-end_at x [] = Some x
-end_at x (word ∷ words) = None
+-- nothing, where the line ends here
+abbrev pub end_left : List (List ℕ) → Option (List (List ℕ))
+end_left [] = Some []
+end_left (word ∷ words) = None

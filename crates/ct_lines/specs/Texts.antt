@@ -16,7 +16,7 @@ text_of lines = ended (map (join_with_byte 32) lines)
 
 -- the number of a move, from 1, and how many times it is taken
 abbrev pub IsStep : ℕ × ℕ → Type 0
-IsStep step = (1 ≤ step.0) × (step.0 ≤ MOVE_LIMIT) × (1 ≤ step.1) × (step.1 ≤ GRADE_LIMIT)
+IsStep step = ((1 ≤ step.0) × (step.0 ≤ MOVE_LIMIT)) × ((1 ≤ step.1) × (step.1 ≤ GRADE_LIMIT))
 
 -- number*times
 abbrev pub step_word : ℕ × ℕ → List ℕ

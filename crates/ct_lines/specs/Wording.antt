@@ -3,7 +3,7 @@ use Rattle.std.specs.Prelude.{◌≡◌, ℕ, ◌+◌, ◌≤◌, ◌==◌, ◌&
 use Rattle.std.specs.List.{AllByRecursion}
 use Rattle.ct_text.specs.Pieces.{split}
 use Rattle.ct_lines.specs.Texts.{IsStep, walk_words}
-use Rattle.ct_lines.specs.Reading.{◌>>=◌, is_next, word_left, number_left, numbers_left, first_step, walk_left, end_at}
+use Rattle.ct_lines.specs.Reading.{◌>>=◌, is_next, word_left, number_left, numbers_left, first_step, walk_left, end_left}
 
 -- A grammar of lines that stand for values of A.
 pub data Wording (A : Type 0) : Type 0 where
@@ -28,7 +28,7 @@ f then x = f x
 
 -- the value of a line of these words, if it is in the grammar
 abbrev pub read : {A : Type 0} → Wording A → List (List ℕ) → Option A
-read (done x) words = end_at x words
+read (done x) words = end_left words >>= λ _. Some x
 read barred words = None
 read (word w next) words = word_left w words >>= λ rest. read next rest
 read (number low high next) words = number_left low high words >>= λ x. read (next x.0) x.1

@@ -28,9 +28,10 @@ impl<'a> Model for Words<'a> {
 }
 
 impl<'a> Words<'a> {
-    ghost use Rattle.std.specs.Prelude.{◌≡◌, ◌<◌, ◌≤◌, drop, IfOk, vec_len, MatchOption, None, Some, if◌then◌else◌};
+    ghost use Rattle.std.specs.Prelude.{◌≡◌, ◌<◌, ◌≤◌, [], drop, All, IfOk, IfSome, vec_len, MatchOption, None, Some, if◌then◌else◌};
     ghost use Rattle.ct_text.specs.Pieces.{split};
-    ghost use Rattle.ct_lines.specs.Reading.{Gives, is_next, word_left, number_left, numbers_left, first_step, steps_left, walk_left, end_at};
+    ghost use Rattle.ct_lines.specs.Reading.{Gives, is_next, word_left, number_left, numbers_left, first_step, steps_left, walk_left, end_left};
+    ghost use Rattle.ct_lines.specs.Texts.{IsStep};
 
     /// The words of a line: what stands between its spaces.
     pub fn new(line: &'a [u8]) -> Words<'a>
@@ -99,6 +100,7 @@ impl<'a> Words<'a> {
     pub fn numbers(&mut self, alloc: Global, count: usize, high: u64) -> Result<Vec<u64>, LineStop>
         ensures gives { Gives (λ v. (v.items, self.new)) result (numbers_left count high self.old) }
         ensures count { IfOk result (λ v. vec_len v ≡ count) }
+        ensures within { IfOk result (λ v. All (λ n. n ≤ high) v.items) }
     {
         let mut found = Vec::with_capacity(alloc, count)?;
         for _ in 0..count {
@@ -110,7 +112,8 @@ impl<'a> Words<'a> {
 
     // Takes a step if one stands next.
     fn next_step(&mut self) -> Option<(u32, u64)>
-        ensures { MatchOption result ((first_step self.old ≡ None) × (self.new ≡ self.old)) (λ step. first_step self.old ≡ Some (step, self.new)) }
+        ensures within { IfSome result IsStep }
+        ensures takes { MatchOption result ((first_step self.old ≡ None) × (self.new ≡ self.old)) (λ step. first_step self.old ≡ Some (step, self.new)) }
     {
         let step = step_in(self.ahead?)?;
         self.advance();
@@ -119,7 +122,8 @@ impl<'a> Words<'a> {
 
     // Takes all steps that stand next.
     fn steps(&mut self, alloc: Global) -> Result<Vec<(u32, u64)>, AllocError>
-        ensures { IfOk result (λ steps. steps_left self.old ≡ (steps.items, self.new)) }
+        ensures steps { IfOk result (λ steps. steps_left self.old ≡ (steps.items, self.new)) }
+        ensures within { IfOk result (λ steps. All IsStep steps.items) }
     {
         let mut steps = Vec::new(alloc);
         while let Some(step) = self.next_step() {
@@ -131,7 +135,8 @@ impl<'a> Words<'a> {
     /// Takes a walk: as many steps `number*times` as stand next, or `-` for the walk without steps. Numbers of moves
     /// count from 1.
     pub fn walk(&mut self, alloc: Global) -> Result<Vec<(u32, u64)>, LineStop>
-        ensures { Gives (λ steps. (steps.items, self.new)) result (walk_left self.old) }
+        ensures gives { Gives (λ steps. (steps.items, self.new)) result (walk_left self.old) }
+        ensures within { IfOk result (λ steps. All IsStep steps.items) }
     {
         if self.goes(b"-") {
             return Ok(Vec::new(alloc));
@@ -145,7 +150,7 @@ impl<'a> Words<'a> {
 
     /// The line ends here.
     pub fn end(&self) -> Result<(), LineStop>
-        ensures { Gives (λ _. result) result (end_at result self.now) }
+        ensures { Gives (λ _. []) result (end_left self.now) }
     {
         match self.ahead {
             Some(_) => Err(LineStop::Refused),
@@ -156,6 +161,7 @@ impl<'a> Words<'a> {
 
 ghost use Rattle.std.specs.Prelude.{◌≡◌, ◌≤◌, IfSome};
 ghost use Rattle.ct_lines.specs.Reading.{number_of, step_of};
+ghost use Rattle.ct_lines.specs.Texts.{IsStep};
 
 fn number_in(word: &[u8], low: u64, high: u64) -> Option<u64>
     ensures exact { result ≡ number_of low high word.now }
@@ -170,7 +176,8 @@ fn number_in(word: &[u8], low: u64, high: u64) -> Option<u64>
 // A step is spelled `number*times`.
 #[tactic(auto, unfolding(crate::specs::Reading::step_of))]
 fn step_in(word: &[u8]) -> Option<(u32, u64)>
-    ensures { result ≡ step_of word.now }
+    ensures exact { result ≡ step_of word.now }
+    ensures within { IfSome result IsStep }
 {
     let mut parts = Pieces::new(word, b'*');
     let number = parts.next()?;

@@ -51,6 +51,9 @@ begins_more n ds big h =
 decimal_begins : (n : ℕ) → n < 10 ^ 64 → BeginsRight n (decimal n)
 decimal_begins = decimal_by_steps_wide BeginsRight (λ n small. (omega arith, λ e. omega arith)) begins_more
 
+pub decimal_some : (n : ℕ) → n < 10 ^ 64 → 0 < length (decimal n)
+decimal_some n fits = (decimal_begins n fits).0
+
 natural_of_digits : (ds : List ℕ) → AreDigits ds → 0 < length ds → (get_or ds 0 0 ≡ 48 → length ds ≡ 1) → is_natural ds ≡ true
 natural_of_digits [] h some first = absurd (omega arith)
 natural_of_digits (first ∷ others) h some alone = go (eqb first 48) refl

@@ -1,7 +1,9 @@
 //! Lists of moves, as slabs that lists share.
 ghost use Rattle.std.specs.Prelude.{◌≡◌, ◌+◌, ◌≤◌, ◌<◌, [], ◌∷◌, ◌++◌, length, map, All, IfOk, OnOk, IfErr};
+ghost use Rattle.ct_vectors.specs.declared.limits.TheConstants.{MOVE_LIMIT};
 ghost use Rattle.std.specs.List.{flat_map};
 ghost use Rattle.std.specs.Arc.{arc_value};
+ghost use Rattle.ct_vectors.specs.Vectors.{IsTimes};
 ghost use Rattle.ct_index.specs.Pages.{IsPaged};
 ghost use Rattle.ct_instance.specs.Instance.{IsPoint};
 ghost use Rattle.ct_instance.specs.Walk.{first_dividing};
@@ -59,7 +61,7 @@ impl Moves {
     /// before. A last slab that isn't full is made anew.
     pub fn push(&mut self, mv: Move) -> Result<(), (Move, AllocError)>
         requires of_instance { IsSmallMove self.old.instance mv }
-        requires room { length self.old.moves < 4096 }
+        requires room { length self.old.moves < MOVE_LIMIT }
         ensures ok { OnOk result (self.new ≡ record self.old { moves = self.old.moves ++ mv ∷ [] }) }
         ensures err { IfErr result (λ e. (self.new ≡ self.old) × (e.0 ≡ mv)) }
     {
@@ -75,7 +77,7 @@ impl Moves {
     // The slabs of these moves and a copy of this one.
     fn with_copy(&self, mv: &Move) -> Result<Vec<Arc<Slab>>, AllocError>
         requires of_instance { IsSmallMove self.now.instance mv.now }
-        requires room { length self.now.moves < 4096 }
+        requires room { length self.now.moves < MOVE_LIMIT }
         ensures { IfOk result (λ v. IsPaged arc_value v.items × (flat_map arc_value v.items ≡ self.now.moves ++ mv.now ∷ [])) }
     {
         let mut one = Vec::new(self.alloc);
@@ -87,7 +89,7 @@ impl Moves {
     /// last slab that isn't full is made anew with more. For want of memory this list is unchanged, and more is dropped.
     pub fn extended(&self, alloc: Global, more: Vec<Move>) -> Result<Moves, AllocError>
         requires of_instance { All (IsSmallMove self.now.instance) more.items }
-        requires room { length self.now.moves + length more.items ≤ 4096 }
+        requires room { length self.now.moves + length more.items ≤ MOVE_LIMIT }
         ensures { IfOk result (λ l. l ≡ record self.now { moves = self.now.moves ++ more.items }) }
     {
         let inst = Arc::try_clone(&self.inst)?;
@@ -98,7 +100,7 @@ impl Moves {
     // The slabs of these moves and more.
     fn grown(&self, alloc: Global, more: Vec<Move>) -> Result<Vec<Arc<Slab>>, AllocError>
         requires of_instance { All (IsSmallMove self.now.instance) more.items }
-        requires room { length self.now.moves + length more.items ≤ 4096 }
+        requires room { length self.now.moves + length more.items ≤ MOVE_LIMIT }
         ensures { IfOk result (λ v. IsPaged arc_value v.items × (flat_map arc_value v.items ≡ self.now.moves ++ more.items)) }
     {
         if more.is_empty() {
@@ -118,7 +120,7 @@ impl Moves {
     /// The number of moves.
     pub fn len(&self) -> u32
         ensures count { result ≡ length self.now.moves }
-        ensures most { result ≤ 4096 }
+        ensures most { result ≤ MOVE_LIMIT }
     {
         let count = self.slabs.len();
         if count == 0 {
@@ -138,12 +140,24 @@ impl Moves {
         &self.slabs[index / BLOCK_SIZE].items()[index % BLOCK_SIZE]
     }
 
+    // How many times the head of the move with this number fits into p.
+    pub(crate) fn times_in(&self, number: u32, p: &Point) -> u64
+        requires some { 1 ≤ number }
+        requires within { number ≤ length self.now.moves }
+        requires point { IsPoint self.now.instance p.now }
+        ensures { IsTimes (the_move self.now.moves number).head p.now result }
+    {
+        let index = number as usize - 1;
+        self.slabs[index / BLOCK_SIZE].times_in(index % BLOCK_SIZE, p)
+    }
+
     /// The least number of a move whose head is at most p. It looks into the index of each slab, and takes no memory.
     pub fn first_dividing(&self, p: &Point) -> Option<u32>
         requires { IsPoint self.now.instance p.now }
         ensures { result ≡ first_dividing self.now.moves p.now }
     {
-        let places = Places::of(p);
+        let mut places = Places::new();
+        places.look_at(p);
         for k in 0..self.slabs.len() {
             if let Some(j) = self.slabs[k].first_dividing(p, &places) {
                 return Some((BLOCK_SIZE * k + j) as u32 + 1);

@@ -1,4 +1,4 @@
-use Rattle.std.proofs.Common.{ℕ, ◌≡◌, ◌≤◌, ◌<◌, ◌+◌, Some, length, sym, ap, ◌∙◌, arith}
+use Rattle.std.proofs.Common.{ℕ, ◌≡◌, ◌+◌, Some, length, sym, ap, ◌∙◌, arith}
 use Rattle.ct_instance.specs.declared.jobs.Job.TheVariants.{Generator}
 use Rattle.ct_jobs.specs.declared.graded.GradedJob.{GradedJob}
 use Rattle.ct_ledger.specs.declared.entries.LedgerEntry.TheVariants as entry

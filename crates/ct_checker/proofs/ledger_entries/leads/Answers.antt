@@ -1,4 +1,3 @@
-use Rattle.std.proofs.Common.{◌≡◌}
 use Rattle.ct_checker.proofs.Following.{followed_to, followed_point, refused_nowhere, refused_point}
 use Rattle.ct_checker.proofs.ledger_entries.leads.Goals as goal
 

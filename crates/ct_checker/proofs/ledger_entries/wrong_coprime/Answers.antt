@@ -1,4 +1,4 @@
-use Rattle.std.proofs.Common.{◌≡◌, None, Some, refl, sym, true≢false}
+use Rattle.std.proofs.Common.{None, Some, refl, sym, true≢false}
 use Rattle.std.proofs.lemmas.Bool.{cond-true, cond-false}
 use Rattle.ct_checker.specs.Refusals.{is_coprime}
 use Rattle.ct_checker.specs.declared.verdicts.Reason.TheVariants.{Coprime}

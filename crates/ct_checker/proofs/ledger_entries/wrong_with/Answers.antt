@@ -1,10 +1,8 @@
-use Rattle.std.proofs.Common.{ℕ, ◌≡◌, ◌≤◌, Option, true≢false, refl, List, None, Some, sym, subst, ap, ap₂, ◌∙◌}
+use Rattle.std.proofs.Common.{ℕ, ◌≤◌, Option, true≢false, refl, List, Some, sym, subst, ap, ap₂, ◌∙◌}
 use Rattle.std.proofs.lemmas.Bool.{cond-true, cond-false}
 use Rattle.ct_vectors.specs.declared.limits.TheConstants.{GRADE_LIMIT}
-use Rattle.ct_instance.specs.Instance.{Problem, IsPoint, grade_of}
+use Rattle.ct_instance.specs.Instance.{IsPoint, grade_of}
 use Rattle.ct_instance.specs.Jobs.{first_end_of, second_end_of}
-use Rattle.ct_walk.specs.Moves.{IsMoveList}
-use Rattle.ct_walk.proofs.MoveFacts.{are_moves}
 use Rattle.ct_checker.specs.Refusals.{same_job, is_coprime, end_of_steps, walks_reason}
 use Rattle.ct_checker.specs.declared.verdicts.Reason.TheVariants.{Coprime}
 use Rattle.ct_checker.proofs.Refusals.{coprime_test, coprime_false}

@@ -1,5 +1,6 @@
-use Rattle.std.proofs.Common.{◌≡◌, ◌-◌, ◌+◌, suc, arith}
+use Rattle.std.proofs.Common.{◌≡◌, ◌-◌, ◌+◌, suc, ◌≤◌, arith}
 use Rattle.std.proofs.lemmas.Result.{err_from_is_err_and}
+use Rattle.std.proofs.lemmas.List.Elements.{All-push}
 use Rattle.ct_lines.specs.Reading.{numbers_left}
 use Rattle.ct_lines.proofs.Loops.{number_more, number_stop, number_end}
 use Rattle.ct_lines.proofs.words.Words.numbers.Goals as goal
@@ -18,6 +19,7 @@ loop-preserved c =
     record {
       reads = rw c.in_ok-push.ensures.items (number_more c.loop.found.items (c.args.count - c.loop.counter) later c.args.high c.in_ok-n.n c.loop.self c.number.new.self (numbers_left c.args.count c.args.high c.args.self.now) k c.in_ok-n.ensures.gives c.loop.invariant.reads);
       count = omega (arith, c.in_ok-push.ensures.len, c.loop.invariant.count);
+      within = rw c.in_ok-push.ensures.items (All-push (λ n. n ≤ c.args.high) c.loop.found.items c.in_ok-n.n c.loop.invariant.within c.in_ok-n.ensures.within.1);
     }
 
 pub returns-clause-gives : goal.returns-clause-gives

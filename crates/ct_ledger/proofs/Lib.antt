@@ -1,0 +1,2 @@
+pub mod LedgerMachine
+pub mod Written

@@ -1,5 +1,5 @@
 -- The ledger of two coins of 3 and 5 at cost 2 and 3 up to grade 15, and what is refused after one change, by computation.
-use Rattle.std.proofs.Common.{ℕ, ◌+◌, pos, ◌≡◌, Some, None, List, [], ◌∷◌, ◌++◌, take, drop, refl}
+use Rattle.std.proofs.Common.{ℕ, ◌+◌, ◌≡◌, Some, None, List, [], ◌∷◌, ◌++◌, take, drop, refl}
 use Rattle.ct_instance.specs.declared.jobs.Job.TheVariants.{Generator, Pair}
 use Rattle.ct_instance.specs.Fiber.{fiber_of, least_of}
 use Rattle.ct_instance.specs.TestSet.{lists_of, test_moves_at, test_list}

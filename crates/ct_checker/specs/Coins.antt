@@ -1,5 +1,5 @@
 -- The instance of the tests: two coins of 3 and 5 at cost 2 and 3.
-use Rattle.std.specs.Prelude.{pos, List, [], ◌∷◌}
+use Rattle.std.specs.Prelude.{pos, [], ◌∷◌}
 use Rattle.ct_instance.specs.Instance.{Problem}
 
 abbrev pub coins : Problem

@@ -1,17 +1,17 @@
-//! The ledger of two coins of 3 and 5 at cost 2 and 3 up to grade 6, its verdict, and that of a changed one.
+//! The ledger of two coins of 3 and 5 at cost 2 and 3: what is certified, and the verdict after one change.
 ghost use Rattle.std.specs.Prelude.{◌≡◌, ◌++◌, ◌∷◌, []};
 ghost use Rattle.std.specs.Arc.{arc_value};
 ghost use Rattle.ct_instance.specs.TestSet.{test_list};
 ghost use Rattle.ct_checker.specs.Coins.{coins};
-ghost use Rattle.ct_ledger.specs.Parts.{IsLedgerPoint, HasNumbers, AreSteps};
+ghost use Rattle.ct_ledger.specs.Parts.{IsLedgerPoint};
 
 use crate::{Reason, Verdict, certify, check};
-use ct_instance::{Instance, Job};
-use ct_ledger::{Ledger, LedgerEntry};
-use ct_point::{Point, Seq};
+use ct_instance::Instance;
+use ct_ledger::Ledger;
+use ct_point::Point;
 use ct_vectors::limits::MOVE_LIMIT;
 use ct_walk::{Move, Moves};
-use std::alloc::Global;
+use std::alloc::{AllocError, Global};
 use std::process::Abort;
 use std::sync::Arc;
 
@@ -22,69 +22,6 @@ fn point(rt: &impl Abort, alloc: Global, c: [u64; 3]) -> Point
 {
     assert!(rt; c[0] <= 1000 && c[1] <= 1000 && c[2] <= 1000);
     Point::from_slice(alloc, &c).expect(rt, "a point")
-}
-
-fn put_move(rt: &impl Abort, alloc: Global, ledger: &mut Ledger, head: [u64; 3], tail: [u64; 3]) {
-    let head = point(rt, alloc, head);
-    let tail = point(rt, alloc, tail);
-    assert!(rt; ledger.size() == (1, 2) && ledger.moves().len() < MOVE_LIMIT);
-    ledger.push_move(head, tail).expect(rt, "room");
-}
-
-// Each of the moves once.
-fn steps(rt: &impl Abort, alloc: Global, moves: &[u32]) -> Seq<(u32, u64)>
-    ensures { AreSteps result }
-{
-    let mut steps = Vec::new(alloc);
-    for number in moves {
-        assert!(rt; *number >= 1 && *number as usize <= MOVE_LIMIT);
-        steps.push((*number, 1u64)).expect(rt, "room");
-    }
-    Seq::from_vec(steps)
-}
-
-// No step from the first end, and each of the moves once from the second.
-fn put_walks(rt: &impl Abort, alloc: Global, ledger: &mut Ledger, job: Job, moves: &[u32])
-    requires { HasNumbers job }
-{
-    let first = steps(rt, alloc, &[]);
-    let second = steps(rt, alloc, moves);
-    ledger
-        .push_entry(LedgerEntry::Walks(job, first, second))
-        .expect(rt, "room");
-}
-
-fn ledger_up_to_six(rt: &impl Abort, alloc: Global) -> Ledger {
-    let mut ledger = Ledger::open(alloc, 1, 2, 6);
-    put_move(rt, alloc, &mut ledger, [0, 0, 3], [1, 0, 0]);
-    put_move(rt, alloc, &mut ledger, [1, 0, 2], [0, 1, 0]);
-    put_move(rt, alloc, &mut ledger, [0, 1, 1], [2, 0, 0]);
-    put_walks(rt, alloc, &mut ledger, Job::Generator(1), &[1]);
-    put_walks(rt, alloc, &mut ledger, Job::Generator(2), &[1, 2]);
-    ledger
-}
-
-#[test]
-fn verdicts(rt: HostRuntime) {
-    let alloc = rt.alloc();
-    let inst = Instance::new(alloc, 1, 2, &[3, 5], &[2, 3]).expect(&rt, "an instance");
-    let inst = Arc::new(alloc, inst).expect(&rt, "room");
-    let mut ledger = ledger_up_to_six(&rt, alloc);
-    put_walks(&rt, alloc, &mut ledger, Job::Pair(1, 2), &[3]);
-    let verdict = check(alloc, &inst, &ledger).expect(&rt, "room");
-    assert!(rt; verdict == Verdict::Accepted { grade: 6, moves: 3 });
-    let mut ledger = ledger_up_to_six(&rt, alloc);
-    ledger
-        .push_entry(LedgerEntry::Coprime(Job::Pair(1, 2)))
-        .expect(&rt, "room");
-    let verdict = check(alloc, &inst, &ledger).expect(&rt, "room");
-    assert!(rt;
-        verdict
-            == Verdict::Refused {
-                line: 9,
-                reason: Reason::Coprime
-            }
-    );
 }
 
 // The test list of the coins of grade 6.
@@ -127,4 +64,87 @@ fn what_is_certified_is_accepted(rt: HostRuntime) {
     assert_eq!(rt; ledger.entries().len(), 3);
     let verdict = check(alloc, &inst, &ledger).expect(&rt, "room");
     assert!(rt; verdict == Verdict::Accepted { grade: 6, moves: 3 });
+}
+
+// The ledger of the coins up to grade 15, line by line.
+const LINES: [&str; 17] = [
+    "ledger 1",
+    "size 1 2",
+    "grade 15",
+    "move 0 0 3 to 1 0 0",
+    "move 1 0 2 to 0 1 0",
+    "move 0 1 1 to 2 0 0",
+    "move 3 0 1 to 0 2 0",
+    "move 5 0 0 to 0 3 0",
+    "generator 1 - | 1*1",
+    "generator 2 - | 1*1 2*1",
+    "pair 1 2 - | 3*1",
+    "pair 1 3 - | 2*1",
+    "pair 2 3 - | 4*1",
+    "pair 2 4 - | 3*1",
+    "pair 1 4 - | 3*2",
+    "pair 3 4 5*1 | -",
+    "end",
+];
+
+// Its text with one line, counted from 1, replaced or left out.
+fn changed(alloc: Global, line: usize, with: Option<&str>) -> Result<String, AllocError> {
+    let mut text = String::from_str(alloc, "")?;
+    for k in 0..LINES.len() {
+        let shown = if k + 1 == line { with } else { Some(LINES[k]) };
+        if let Some(words) = shown {
+            text.push_str(words)?;
+            text.push_str("\n")?;
+        }
+    }
+    Ok(text)
+}
+
+#[test]
+fn one_changed_line(rt: HostRuntime) {
+    let alloc = rt.alloc();
+    let inst = Instance::new(alloc, 1, 2, &[3, 5], &[2, 3]).expect(&rt, "an instance");
+    let inst = Arc::new(alloc, inst).expect(&rt, "room");
+    for (line, with, refused, reason) in [
+        (2, Some("size 2 1"), 2, Reason::Size),
+        (3, Some("grade 14"), 8, Reason::Grade),
+        (4, Some("move 0 0 3 to 0 1 0"), 4, Reason::Degree),
+        (4, Some("move 1 0 0 to 0 0 3"), 4, Reason::Order),
+        (9, Some("generator 2 - | 1*1 2*1"), 9, Reason::Entry),
+        (
+            11,
+            Some("pair 1 2 - | 3*1\npair 1 2 - | 3*1"),
+            12,
+            Reason::Entry,
+        ),
+        (13, None, 13, Reason::Entry),
+        (16, None, 16, Reason::Entry),
+        (11, Some("pair 1 2 coprime"), 11, Reason::Coprime),
+        (9, Some("generator 1 - | 1*2"), 9, Reason::Step),
+        (9, Some("generator 1 - | 6*1"), 9, Reason::Step),
+        (8, None, 15, Reason::Step),
+        (9, Some("generator 1 - | -"), 9, Reason::End),
+    ] {
+        let text = changed(alloc, line, with).expect(&rt, "room");
+        let ledger = Ledger::read(alloc, text.as_bytes()).expect(&rt, "a ledger");
+        let verdict = check(alloc, &inst, &ledger).expect(&rt, "room");
+        assert!(rt;
+            verdict
+                == Verdict::Refused {
+                    line: refused,
+                    reason
+                },
+            "line {line}"
+        );
+    }
+    let text = changed(alloc, 0, None).expect(&rt, "room");
+    let ledger = Ledger::read(alloc, text.as_bytes()).expect(&rt, "a ledger");
+    let verdict = check(alloc, &inst, &ledger).expect(&rt, "room");
+    assert!(rt;
+        verdict
+            == Verdict::Accepted {
+                grade: 15,
+                moves: 5
+            }
+    );
 }

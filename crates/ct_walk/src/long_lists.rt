@@ -1,5 +1,6 @@
 //! Look-ups in lists of more than a slab, against a comparison with each head.
 ghost use Rattle.std.specs.Prelude.{◌≡◌, ◌≤◌, ◌+◌, length};
+ghost use Rattle.ct_vectors.specs.declared.limits.TheConstants.{MOVE_LIMIT};
 ghost use Rattle.std.specs.Arc.{arc_value};
 ghost use Rattle.ct_instance.specs.Instance.{IsPoint};
 ghost use Rattle.ct_walk.specs.Moves.{IsSmallMove};
@@ -25,7 +26,7 @@ fn point(rt: &impl Abort, alloc: Global, inst: &Instance, x: u64, y: u64) -> Poi
 
 // Takes k artificials away and adds k of the column.
 fn exchange(rt: &impl Abort, alloc: Global, inst: &Instance, k: u64) -> Move
-    requires { k ≤ 4096 }
+    requires { k ≤ MOVE_LIMIT }
     ensures { IsSmallMove inst.now result }
 {
     assert!(rt; inst.rows() == 1 && inst.columns() == 1);
@@ -36,7 +37,7 @@ fn exchange(rt: &impl Abort, alloc: Global, inst: &Instance, k: u64) -> Move
 
 // The exchanges of count, then of one less, and so on: the first that divides y artificials is that of y itself.
 fn falling(rt: &impl Abort, alloc: Global, inst: &Arc<Instance>, count: u64) -> Moves
-    requires { count ≤ 4096 }
+    requires { count ≤ MOVE_LIMIT }
     ensures instance { result.instance ≡ arc_value inst.now }
     ensures count { length result.moves ≡ count }
 {

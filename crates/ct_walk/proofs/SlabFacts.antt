@@ -1,5 +1,5 @@
 -- The slabs of a list of moves.
-use Rattle.std.proofs.Common.{ℕ, ◌+◌, ◌-◌, ◌≤◌, ◌<◌, ◌≡◌, inl, inr, Bool, false, cond, Option, Some, None, List, [], ◌∷◌, ◌++◌, All, length, get_or, take, map, refl, sym, subst, ap, ◌∙◌, arith, slice_get, unwrap_or, zero, suc, add-one, append_assoc, append-nil}
+use Rattle.std.proofs.Common.{ℕ, ◌+◌, ◌-◌, ◌*◌, ◌/◌, ◌%◌, ◌≤◌, ◌<◌, ◌≡◌, ◌≢◌, inl, inr, Bool, true, false, cond, Option, Some, None, List, [], ◌∷◌, ◌++◌, All, length, get_or, take, map, refl, sym, subst, ap, ◌∙◌, arith, slice_get, unwrap_or, zero, suc, add-one, append_assoc, append-nil}
 use Rattle.std.specs.Option.{option_map}
 use Rattle.std.specs.List.{flat_map, position}
 use Rattle.std.specs.Arc.{arc_value}
@@ -17,7 +17,7 @@ use Rattle.ct_instance.specs.TestSet.{Binomial}
 use Rattle.ct_instance.specs.Walk.{first_dividing, IsNormal}
 use Rattle.ct_instance.specs.Jobs.{the_move}
 use Rattle.ct_walk.specs.Moves.{IsSmallMove}
-use Rattle.ct_walk.proofs.Loops.{first_dividing_here}
+use Rattle.ct_walk.proofs.Loops.{first_dividing_here, normal_more}
 
 -- while more moves are added: the slabs so far are full, and with the open one they have the moves so far
 pub record Growing (i : Problem) (slabs : List (Arc (List Binomial) Global)) (done : List Binomial) (made : List (Arc (List Binomial) Global)) (rest : List Binomial) : Type 0 where

@@ -1,6 +1,7 @@
-use Rattle.std.proofs.Common.{ℕ, ◌≡◌, ◌+◌, ◌*◌, ◌<◌, List, [], All, length, get_or, take, sym, ◌∙◌, subst, ap, arith, Some, None, suc, add-one}
+use Rattle.std.proofs.Common.{ℕ, ◌≡◌, ◌+◌, ◌*◌, ◌<◌, List, [], All, length, get_or, take, sym, ◌∙◌, subst, ap, arith, Some, None, suc, refl, add-one}
 use Rattle.std.specs.Option.{option_map}
 use Rattle.std.specs.List.{position, flat_map}
+use Rattle.std.proofs.lemmas.List.{take_all}
 use Rattle.std.proofs.lemmas.List.Quantifiers.{position-Some}
 use Rattle.ct_vectors.specs.Vectors.{divides}
 use Rattle.ct_index.specs.Pages.{IsPaged}

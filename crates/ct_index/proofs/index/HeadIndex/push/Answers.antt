@@ -1,9 +1,9 @@
-use Rattle.std.proofs.Common.{ℕ, ◌≡◌, ◌+◌, ◌-◌, ◌<◌, Result, Ok, Err, List, [], ◌∷◌, ◌++◌, All, length, get_or, set, sym, ◌∙◌, subst, ap, arith, append-nil, IsTrue, ap₂}
+use Rattle.std.proofs.Common.{ℕ, ◌≡◌, ◌+◌, ◌-◌, ◌<◌, ◌≤◌, Result, Ok, Err, List, [], ◌∷◌, ◌++◌, All, length, get_or, set, sym, ◌∙◌, subst, ap, arith, append-nil, IsTrue, ap₂}
 use Rattle.std.specs.List.{flat_map}
 use Rattle.std.specs.Result.{OnOk, OnErr}
 use Rattle.std.proofs.lemmas.List.{length_push, get_or_default}
 use Rattle.ct_index.specs.Pages.{IsPaged}
-use Rattle.ct_index.proofs.Pages.{All-page, paged_set, paged_push, flat_map-set}
+use Rattle.ct_index.proofs.Pages.{All-page, paged_set, paged_push, flat_map-set, flat_map_push}
 use Rattle.ct_index.proofs.index.HeadIndex.push.Goals as goal
 use Rattle.ct_index.proofs.index.HeadIndex.push.Goals.{else-count-gt0-via-then-count-gt0+else-not-is_full, else-count-gt0-via-else-count-gt0}
 

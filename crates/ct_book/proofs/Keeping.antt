@@ -21,7 +21,7 @@ use Rattle.ct_completion.specs.Laws.{IsReached}
 use Rattle.ct_completion.proofs.Replay.{journal_grows, replay_reached}
 use Rattle.ct_jobs.specs.declared.graded.GradedJob.{GradedJob}
 use Rattle.ct_version.specs.declared.finished.Finished.{Finished}
-use Rattle.ct_version.specs.Editions.{Edition, IsEdition, level_seen}
+use Rattle.ct_version.specs.Editions.{Edition, level_seen}
 use Rattle.std.specs.Arc.{arc_value}
 use Rattle.ct_levels.proofs.Full.{full_some, no_full_within}
 use Rattle.ct_version.specs.declared.pins.Helped.{Helped}

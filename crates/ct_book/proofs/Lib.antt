@@ -9,3 +9,4 @@ pub mod OpeningGrades
 pub mod NextVersions
 pub mod ReadyBooks
 pub mod StepAnswers
+pub mod RunsOn

@@ -1,12 +1,12 @@
 -- The next version: its list, its level, its jobs.
-use Rattle.std.proofs.Common.{◌≡◌, ℕ, ◌+◌, ◌-◌, ◌≤◌, ◌<◌, Option, Some, None, List, [], ◌∷◌, ◌++◌, length, map, take, get_or, sym, ap, ap₂, subst, subst₂, ◌∙◌, refl, arith, append-nil, append_assoc, zero, suc}
+use Rattle.std.proofs.Common.{◌≡◌, ℕ, ◌+◌, ◌≤◌, ◌<◌, Option, Some, None, List, [], ◌∷◌, ◌++◌, length, map, take, get_or, sym, ap, ap₂, subst₂, ◌∙◌, refl, arith, suc}
 use Rattle.std.specs.Option.{unwrap_or}
 use Rattle.std.proofs.lemmas.List.{map-append, take_more}
 use Rattle.ct_vectors.specs.declared.limits.TheConstants.{GRADE_LIMIT}
 use Rattle.ct_instance.specs.Instance.{Problem}
 use Rattle.ct_instance.specs.TestSet.{Binomial}
 use Rattle.ct_instance.specs.Versions.{Level, upto, everything, level_of, version_list, IsVersion}
-use Rattle.ct_instance.specs.Reach.{opened_grade, last_opened}
+use Rattle.ct_instance.specs.Reach.{last_opened}
 use Rattle.ct_levels.proofs.Levels.{last_opened_next, number_within}
 use Rattle.ct_walk.specs.Moves.{MoveList}
 use Rattle.ct_jobs.specs.declared.graded.GradedJob.{GradedJob}

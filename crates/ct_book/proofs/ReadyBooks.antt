@@ -1,47 +1,44 @@
 -- What the resolved jobs of a grade give: the next version, or the mark.
-use Rattle.std.proofs.Common.{◌≡◌, ℕ, ◌+◌, ◌-◌, ◌≤◌, ◌<◌, Bool, true, false, true≢false, Option, Some, None, List, [], ◌∷◌, ◌++◌, length, map, get_or, All, AllPairs, Contains, ◌↔◌, IsPermutation, ⊎_elim, sym, ap, ap₂, subst, subst₂, ◌∙◌, refl, arith, zero, suc, append-nil}
-use Rattle.std.specs.Prelude.{slice_get}
+use Rattle.std.proofs.Common.{◌≡◌, ℕ, ◌+◌, ◌≤◌, ◌<◌, Bool, true, true≢false, Option, Some, None, List, [], ◌∷◌, ◌++◌, length, map, get_or, All, AllPairs, Contains, ◌↔◌, IsPermutation, sym, ap, ap₂, subst, ◌∙◌, refl, arith, suc}
 use Rattle.std.specs.Option.{unwrap_or}
-use Rattle.std.proofs.lemmas.Bool.{cases_lt}
 use Rattle.std.proofs.lemmas.List.{get_or_default, length-map, length_push, length-append, map-append, get_or-map}
 use Rattle.std.proofs.lemmas.List.Elements.{All-cons}
 use Rattle.std.proofs.lemmas.List.Sorted.{IsPermutation-trans, IsPermutation-refl, IsPermutation-append}
 use Rattle.std.proofs.lemmas.Option.{slice_get-get_or, same_Some}
-use Rattle.ct_vectors.specs.declared.limits.TheConstants.{GRADE_LIMIT, JOB_GRADE_LIMIT, MOVE_LIMIT}
+use Rattle.ct_vectors.specs.declared.limits.TheConstants.{GRADE_LIMIT}
 use Rattle.ct_vectors.specs.Vectors.{total, up_to}
 use Rattle.ct_instance.specs.declared.jobs.Job.{Job}
-use Rattle.ct_instance.specs.declared.jobs.Job.TheVariants.{Generator, Pair}
-use Rattle.ct_instance.specs.Instance.{Problem, IsInstance, IsPoint, degree_of, grade_of}
+use Rattle.ct_instance.specs.declared.jobs.Job.TheVariants.{Generator}
+use Rattle.ct_instance.specs.Instance.{Problem, IsInstance}
 use Rattle.ct_instance.specs.Fiber.{IsInFiber}
 use Rattle.ct_instance.specs.TestSet.{Binomial, test_list, ComesBefore}
 use Rattle.ct_instance.specs.Walk.{AreMoves, IsWalkEnd}
 use Rattle.ct_instance.specs.Jobs.{IsJob, job_degree_of, job_grade_of, first_end_of, second_end_of}
 use Rattle.ct_instance.specs.Versions.{Level, upto, level_of, version_list, IsVersion, IsRemainder, coprime, meet, differ}
-use Rattle.ct_instance.specs.Reach.{opened_grade, last_opened}
+use Rattle.ct_instance.specs.Reach.{last_opened}
 use Rattle.ct_walk.specs.Laws.{StaysOrGoesDown}
 use Rattle.ct_walk.proofs.Ends.{ends_in_fiber}
 use Rattle.ct_walk.proofs.Steps.{leads_down}
 use Rattle.ct_walk.proofs.WalkFacts.{walk_leads, test_list_moves}
-use Rattle.ct_levels.proofs.Levels.{list_next, last_opened_next, number_within}
+use Rattle.ct_levels.proofs.Levels.{list_next, last_opened_next}
 use Rattle.ct_levels.proofs.Lists.{is_list_of, opened_has_job}
 use Rattle.ct_levels.proofs.Levels.{covers_opened}
 use Rattle.ct_jobs.specs.GradedJobs.{AreJobsOf, graded_jobs}
 use Rattle.ct_jobs.specs.declared.graded.GradedJob.{GradedJob}
-use Rattle.ct_completion.specs.declared.journals.Act.{Act}
 use Rattle.ct_completion.specs.declared.journals.Act.TheVariants.{Published as ActPublished, MarkedFull}
 use Rattle.ct_completion.specs.declared.journals.Entry.{Entry}
 use Rattle.ct_completion.specs.Machine.{CompletionState, CompletionStep, IsReady, publishes, marks_full, opened_jobs, just_opened}
-use Rattle.ct_completion.specs.Journal.{IsReplay, acts_of, act_of}
+use Rattle.ct_completion.specs.Journal.{IsReplay, acts_of}
 use Rattle.ct_completion.specs.Kept.{AreLevels}
 use Rattle.ct_completion.specs.Remainders.{AreRemainders, points_of, IsGroupMove}
 use Rattle.ct_completion.proofs.Remainders.{next_list_is}
-use Rattle.ct_completion.proofs.Replay.{journal_grows, replay_reached, opened_level}
+use Rattle.ct_completion.proofs.Replay.{journal_grows, opened_level}
 use Rattle.ct_groups.specs.Groups.{IsSmallPoint}
 use Rattle.ct_version.specs.declared.finished.Finished.{Finished}
 use Rattle.ct_version.specs.Editions.{Edition, IsEdition, level_seen}
 use Rattle.ct_book.specs.Logs.{LogSeen}
 use Rattle.ct_book.specs.Queues.{QueueSeen, IsQueue, waits_at, waiting_jobs}
-use Rattle.ct_book.specs.Books.{BookSeen, IsReadyBook, Steps, entry_by}
+use Rattle.ct_book.specs.Books.{BookSeen, Steps, entry_by}
 use Rattle.ct_book.specs.Insides.{Insides, state_in, book_in, IsBook, fresh}
 use Rattle.ct_book.specs.Openings.{left_in}
 use Rattle.ct_book.proofs.Keeping.{inside_of}

@@ -1,14 +1,12 @@
 -- What a step answers, from what `next` and `publish` do.
-use Rattle.std.proofs.Common.{◌≡◌, ℕ, ◌+◌, ◌-◌, ◌≤◌, ◌<◌, Some, List, [], ◌∷◌, ◌++◌, length, sym, ap, subst, ◌∙◌, refl, arith, append-nil}
+use Rattle.std.proofs.Common.{◌≡◌, ℕ, ◌+◌, ◌-◌, ◌≤◌, ◌<◌, Some, [], ◌∷◌, ◌++◌, length, sym, ap, subst, ◌∙◌, arith, append-nil}
 use Rattle.std.proofs.lemmas.Option.{same_Some}
-use Rattle.std.specs.Arc.{arc_value}
 use Rattle.ct_instance.specs.TestSet.{test_list}
 use Rattle.ct_instance.specs.Versions.{upto, level_of, IsFullGrade}
-use Rattle.ct_instance.specs.Reach.{grade_after, opened_grade}
+use Rattle.ct_instance.specs.Reach.{grade_after}
 use Rattle.ct_levels.proofs.Full.{opened_is_full, full_some}
 use Rattle.ct_completion.specs.declared.journals.Act.{Act}
-use Rattle.ct_completion.specs.declared.journals.Entry.{Entry}
-use Rattle.ct_completion.specs.Machine.{CompletionEvent, marks_full}
+use Rattle.ct_completion.specs.Machine.{CompletionEvent}
 use Rattle.ct_completion.specs.Journal.{entries_of}
 use Rattle.ct_version.specs.declared.pins.FullMark.{FullMark}
 use Rattle.ct_version.specs.Editions.{Edition, IsEdition}

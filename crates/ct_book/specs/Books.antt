@@ -7,7 +7,7 @@ use Rattle.ct_instance.specs.declared.jobs.Job.TheVariants.{Generator, Pair}
 use Rattle.ct_instance.specs.Instance.{Problem}
 use Rattle.ct_instance.specs.Made.{indices}
 use Rattle.ct_instance.specs.Versions.{Covers, level_of}
-use Rattle.ct_instance.specs.Reach.{opened_grade, first_level_from}
+use Rattle.ct_instance.specs.Reach.{opened_grade}
 use Rattle.ct_completion.specs.declared.journals.Act.{Act}
 use Rattle.ct_completion.specs.declared.journals.Act.TheVariants.{Stored as ActStored, Published as ActPublished, MarkedFull}
 use Rattle.ct_completion.specs.declared.journals.Entry.{Entry}
@@ -15,7 +15,10 @@ use Rattle.ct_completion.specs.Machine.{CompletionState, CompletionEvent, Comple
 use Rattle.ct_completion.specs.Journal.{entries_of, acts_of}
 use Rattle.ct_version.specs.declared.pins.Helped.{Helped}
 use Rattle.ct_version.specs.declared.pins.FullMark.{FullMark}
-use Rattle.ct_version.specs.Editions.{Edition, level_seen}
+use Rattle.ct_version.specs.declared.pins.Stop.{Stop}
+use Rattle.ct_version.specs.declared.pins.Stop.TheVariants.{Full as Ended, Memory as OutOfMemory}
+use Rattle.ct_levels.specs.Levels.{IsFirstVersion}
+use Rattle.ct_version.specs.Editions.{Edition}
 use Rattle.ct_version.specs.Desks.{Place, IsHelp, IsFullMark}
 use Rattle.ct_book.specs.declared.outcomes.Next.{Next}
 use Rattle.ct_book.specs.declared.outcomes.Next.TheVariants.{Reduce, Publish, Reached, Full}
@@ -155,3 +158,29 @@ IsRiseOf (StepReduce t) rise = rise ≡ 0
 IsRiseOf (StepPublished v) rise = rise ≡ 1
 IsRiseOf (StepReached h) rise = rise ≡ 0
 IsRiseOf (StepFull m) rise = rise ≤ 1
+
+-- ---- completing
+
+-- the first version that covers g, or the mark; either after any number of steps
+pub record IsCompleted (b : BookSeen) (g : ℕ) (c : BookSeen) (h : Helped) : Type 0 where
+  pub runs : Runs b c
+  pub help : IsHelp (place_of b) g h
+  pub version : arc_value h.version ≡ edition_of c
+  pub unchanged : IsCovered b g → c ≡ b
+  pub first : (IsCovered b g → ⊥) → IsFirstVersion b.instance g (c.state).number
+
+pub record IsStopped (b : BookSeen) (g : ℕ) (c : BookSeen) (m : FullMark) : Type 0 where
+  pub runs : Runs b c
+  pub mark : IsFullMark (place_of b) g m
+  pub version : arc_value m.version ≡ edition_of c
+
+abbrev pub IsEnded : BookSeen → ℕ → BookSeen → Stop → Type 0
+IsEnded b g c (Ended m) = IsStopped b g c m
+IsEnded b g c OutOfMemory = Runs b c
+
+-- what is left to do once no job waits
+abbrev pub IsSettled : BookSeen → ℕ → Next → Type 0
+IsSettled b g (Reduce t) = ⊥
+IsSettled b g Publish = (IsCovered b g → ⊥) × IsReadyBook b
+IsSettled b g (Reached h) = IsReached b g h
+IsSettled b g (Full m) = IsMarked b g m

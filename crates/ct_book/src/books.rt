@@ -1,7 +1,8 @@
 //! The book.
-ghost use Rattle.std.specs.Prelude.{◌≡◌, ◌≤◌, ◌<◌, ◌+◌, ◌^◌, [], ◌∷◌, ◌++◌, ◌↔◌, ℕ, length, vec_len, vec_capacity, IsPermutation, IfOk, OnOk, OnErr, IsTrue};
+ghost use Rattle.std.specs.Prelude.{◌≡◌, ◌≤◌, ◌<◌, ◌+◌, ◌^◌, [], ◌∷◌, ◌++◌, ◌↔◌, ℕ, length, vec_len, vec_capacity, IsPermutation, IfOk, OnOk, OnErr, MatchResult, IsTrue};
 ghost use Rattle.ct_vectors.specs.declared.limits.TheConstants.{GRADE_LIMIT, MOVE_LIMIT};
 
+use crate::completing::complete;
 use crate::handing::{helped, marked};
 use crate::log::Log;
 use crate::opening::{Opening, opened_above, shared};
@@ -13,7 +14,7 @@ use crate::tasks::Task;
 use ct_completion::{Act, Entry};
 use ct_instance::Instance;
 use ct_jobs::{Addition, Buckets};
-use ct_version::{Finished, Version};
+use ct_version::{Finished, Helped, Stop, Version};
 use ct_walk::Moves;
 use std::alloc::{AllocError, Global};
 use std::marker::Model;
@@ -49,7 +50,7 @@ impl Book {
     ghost use Rattle.ct_completion.specs.Journal.{entries_of, IsReplay};
     ghost use Rattle.ct_version.specs.Editions.{IsEdition};
     ghost use Rattle.ct_version.specs.Desks.{IsOfPlace};
-    ghost use Rattle.ct_book.specs.Books.{edition_of, place_of, IsReadyBook, IsNext, IsCommitted, IsPublished, IsStep, IsRiseOf, CountsRise, rise_of};
+    ghost use Rattle.ct_book.specs.Books.{edition_of, place_of, IsReadyBook, IsNext, IsCommitted, IsPublished, IsStep, IsRiseOf, CountsRise, IsCompleted, IsEnded, rise_of};
 
     /// A book at version 0, with its grade opened and an empty journal, for an instance, a limit of 1 to 4,096 moves and
     /// 1 to 33 passes. It is linear in the columns.
@@ -233,6 +234,17 @@ impl Book {
                 Published::Full(mark) => Ok(Step::Full(mark)),
             },
         }
+    }
+
+    /// Goes on in one thread until the target is covered, or the limit on the number of moves is found to stand before it.
+    /// It always returns. Where the version covers the target already, nothing changes; else the version in the answer is
+    /// the first that covers it. After want of memory the book is one that some steps lead to.
+    pub fn complete(&mut self, alloc: Global, by: u32, target: u64) -> Result<Helped, Stop>
+        requires pass { by < self.old.passes }
+        requires target { target ≤ GRADE_LIMIT }
+        ensures { MatchResult result (IsCompleted self.old target self.new) (IsEnded self.old target self.new) }
+    {
+        complete(self, alloc, by, target)
     }
 }
 

@@ -3,6 +3,7 @@
 
 mod benches;
 mod books;
+mod completing;
 mod ends;
 mod handing;
 mod log;

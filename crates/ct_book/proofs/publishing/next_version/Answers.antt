@@ -1,10 +1,9 @@
-use Rattle.std.proofs.Common.{◌≡◌, ℕ, ◌+◌, ◌-◌, ◌≤◌, ◌<◌, List, ◌++◌, length, sym, ap, ap₂, subst, subst₂, ◌∙◌, arith, suc}
+use Rattle.std.proofs.Common.{◌≡◌, ℕ, ◌+◌, ◌-◌, ◌≤◌, ◌++◌, sym, ap, ap₂, subst₂, ◌∙◌, arith, suc}
 use Rattle.ct_vectors.specs.declared.limits.TheConstants.{GRADE_LIMIT}
-use Rattle.ct_instance.specs.Instance.{Problem}
-use Rattle.ct_instance.specs.Versions.{Level, upto, level_of, version_list, IsVersion}
+use Rattle.ct_instance.specs.Versions.{level_of, version_list, IsVersion}
 use Rattle.ct_jobs.specs.GradedJobs.{AreJobsOf}
 use Rattle.ct_version.specs.Editions.{level_seen}
-use Rattle.ct_book.proofs.NextVersions.{IsNext, after_instance, after_list, next_is_version, next_number, next_jobs, next_level, next_queue, same_level}
+use Rattle.ct_book.proofs.NextVersions.{IsNext, after_instance, next_is_version, next_number, next_jobs, next_level, next_queue, same_level}
 use Rattle.ct_book.proofs.publishing.next_version.Goals as goal
 
 pub new-requires-clause-version : goal.new-requires-clause-version

@@ -1,10 +1,10 @@
-use Rattle.std.proofs.Common.{◌≡◌, ℕ, ◌+◌, ◌≤◌, ◌<◌, true, Some, List, [], ◌∷◌, ◌++◌, length, All, AllPairs, Contains, ◌↔◌, sym, ap, ap₂, subst, ◌∙◌, refl, arith, suc}
+use Rattle.std.proofs.Common.{◌≡◌, ℕ, ◌+◌, ◌≤◌, ◌<◌, true, Some, List, [], ◌∷◌, ◌++◌, length, All, AllPairs, Contains, ◌↔◌, sym, ap, subst, ◌∙◌, arith, suc}
 use Rattle.std.specs.Arc.{arc_value}
 use Rattle.std.proofs.lemmas.Option.{same_Some}
-use Rattle.ct_vectors.specs.declared.limits.TheConstants.{GRADE_LIMIT, JOB_GRADE_LIMIT}
+use Rattle.ct_vectors.specs.declared.limits.TheConstants.{GRADE_LIMIT}
 use Rattle.ct_instance.specs.Instance.{Problem}
 use Rattle.ct_instance.specs.TestSet.{ComesBefore, test_list}
-use Rattle.ct_instance.specs.Versions.{upto, level_of, version_list}
+use Rattle.ct_instance.specs.Versions.{level_of, version_list}
 use Rattle.ct_instance.specs.Reach.{opened_grade}
 use Rattle.ct_completion.specs.declared.journals.Act.TheVariants.{Published as ActPublished, MarkedFull}
 use Rattle.ct_completion.specs.Machine.{publishes, marks_full, opened_jobs}
@@ -18,7 +18,7 @@ use Rattle.ct_version.specs.declared.finished.Finished.{Finished}
 use Rattle.ct_version.specs.Editions.{Edition, IsEdition, level_seen}
 use Rattle.ct_book.specs.Logs.{LogSeen}
 use Rattle.ct_book.specs.Books.{BookSeen, IsReadyBook, Steps, entry_by, edition_of}
-use Rattle.ct_book.specs.Insides.{Insides, book_in, IsBook, fresh}
+use Rattle.ct_book.specs.Insides.{Insides, book_in, fresh}
 use Rattle.ct_book.specs.Openings.{left_in}
 use Rattle.ct_book.proofs.Keeping.{inside_of}
 use Rattle.ct_book.proofs.ReadyBooks.{IsDone, done_from, small_points, grade_within, next_moves, next_length, marked_kept, published_kept, roomier, taken_in}

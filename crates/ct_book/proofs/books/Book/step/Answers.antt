@@ -1,10 +1,9 @@
-use Rattle.std.proofs.Common.{◌≡◌, ◌≤◌, inr, subst, arith}
-use Rattle.std.specs.Arc.{arc_value}
+use Rattle.std.proofs.Common.{◌≤◌, inr, subst, arith}
 use Rattle.ct_completion.specs.declared.journals.Act.TheVariants.{MarkedFull}
 use Rattle.ct_completion.specs.Machine.{marks_full}
 use Rattle.ct_version.specs.Desks.{IsOfPlace}
 use Rattle.ct_book.specs.declared.outcomes.Published.TheVariants.{Full}
-use Rattle.ct_book.specs.Books.{BookSeen, edition_of, place_of, IsPublished}
+use Rattle.ct_book.specs.Books.{BookSeen, place_of, IsPublished}
 use Rattle.ct_book.proofs.StepAnswers.{published_mark, counts_rise}
 use Rattle.ct_book.proofs.books.Book.step.Goals as goal
 

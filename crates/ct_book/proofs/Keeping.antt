@@ -1,5 +1,5 @@
 -- What a book keeps, over each step.
-use Rattle.std.proofs.Common.{◌≡◌, ℕ, ◌+◌, ◌≤◌, ◌<◌, Bool, true, false, true≢false, Option, Some, None, List, [], ◌∷◌, ◌++◌, length, map, get_or, set, Contains, ◌↔◌, ◌⊎◌, append-nil, ⊎_elim, sym, ap, ap₂, subst, subst₂, ◌∙◌, refl, arith, zero, suc}
+use Rattle.std.proofs.Common.{◌≡◌, ℕ, ◌+◌, ◌-◌, ◌≤◌, ◌<◌, Bool, true, false, true≢false, Option, Some, None, List, [], ◌∷◌, ◌++◌, length, map, get_or, set, Contains, ◌↔◌, ◌⊎◌, append-nil, ⊎_elim, sym, ap, ap₂, subst, subst₂, ◌∙◌, refl, arith, zero, suc}
 use Rattle.std.specs.Prelude.{slice_get}
 use Rattle.std.proofs.lemmas.Bool.{cases_eq, cases_lt}
 use Rattle.std.proofs.lemmas.Grind.{get_or-set_at}
@@ -11,8 +11,8 @@ use Rattle.ct_instance.specs.declared.jobs.Job.{Job}
 use Rattle.ct_instance.specs.declared.jobs.Job.TheVariants.{Generator}
 use Rattle.ct_instance.specs.Instance.{Problem}
 use Rattle.ct_instance.specs.Jobs.{job_grade_of}
-use Rattle.ct_instance.specs.Versions.{Level, upto, everything, level_of, version_list, IsRemainder, Covers}
-use Rattle.ct_instance.specs.Reach.{grade_after, opened_grade}
+use Rattle.ct_instance.specs.Versions.{Level, upto, everything, level_of, version_list, IsRemainder, Covers, IsFullGrade}
+use Rattle.ct_instance.specs.Reach.{grade_after, opened_grade, first_level_from}
 use Rattle.ct_completion.specs.declared.journals.Act.TheVariants.{Stored as ActStored}
 use Rattle.ct_completion.specs.declared.journals.Entry.{Entry}
 use Rattle.ct_completion.specs.Machine.{CompletionState, CompletionStep, IsResolved, hands_out, stores, already, opened_jobs}
@@ -21,8 +21,12 @@ use Rattle.ct_completion.specs.Laws.{IsReached}
 use Rattle.ct_completion.proofs.Replay.{journal_grows, replay_reached}
 use Rattle.ct_jobs.specs.declared.graded.GradedJob.{GradedJob}
 use Rattle.ct_version.specs.declared.finished.Finished.{Finished}
-use Rattle.ct_version.specs.Editions.{Edition}
-use Rattle.ct_version.specs.Desks.{IsOfPlace}
+use Rattle.ct_version.specs.Editions.{Edition, level_seen}
+use Rattle.std.specs.Arc.{arc_value}
+use Rattle.ct_levels.proofs.Full.{full_some, no_full_within}
+use Rattle.ct_version.specs.declared.pins.Helped.{Helped}
+use Rattle.ct_version.specs.declared.pins.FullMark.{FullMark}
+use Rattle.ct_version.specs.Desks.{IsOfPlace, IsHelp, IsFullMark}
 use Rattle.ct_book.specs.Logs.{LogSeen}
 use Rattle.ct_book.specs.Queues.{QueueSeen, IsQueue, waits_at, waiting_jobs, without}
 use Rattle.ct_book.specs.Tasks.{RemainderSeen, IsTask, IsHeld}
@@ -287,3 +291,34 @@ handed_kept x h place job rest first at =
 
     with_journal : List Entry → BookSeen
     with_journal es = record { instance = (x.version).instance; limit = x.limit; passes = (x.log).passes; state = state_in (after_turn x (rest ++ place ∷ [])); journal = es }
+
+-- ---- handing on the version
+
+pub reached_help : (x : Insides) → IsBook x → (g : ℕ) (p : Helped) → Covers (level_of (x.version).instance (x.version).number) g → arc_value p.version ≡ x.version →
+    level_seen p.level ≡ first_level_from (x.version).instance g → IsHelp (place_of (book_in x)) g p
+reached_help x h g p covers version level =
+    let o : IsOfPlace (place_of (book_in x)) x.version = of_place x h in
+    record {
+      version = subst (IsOfPlace (place_of (book_in x))) (sym version) o;
+      covers = subst (λ (v : Edition). Covers (level_of (x.version).instance v.number) g) (sym version) covers;
+      level = level;
+      open_to = no_full_within (x.version).instance (h.edition).instance x.limit (x.version).number g o.version o.most covers;
+    }
+
+pub full_mark : (x : Insides) → IsBook x → (g : ℕ) (m : FullMark) (d : ℕ) → IsShortOf x.version g → IsFullGrade (x.version).instance x.limit d →
+    opened_grade (x.version).instance (x.version).number ≡ Some d → m.grade ≡ d → arc_value m.version ≡ x.version → IsFullMark (place_of (book_in x)) g m
+full_mark x h g m d short full opened same version =
+    let above : short.level + 1 ≡ d = same_Some (short.level + 1) d (sym (ap grade_after short.same) ∙ opened) in
+    let most : d ≤ g = opens_at_most x.version g d short opened in
+    record {
+      version = subst (IsOfPlace (place_of (book_in x))) (sym version) (of_place x h);
+      grade = (full_some (x.version).instance x.limit g d).1 (full, most) ∙ ap Some (sym same);
+      finished = ap (λ (v : Edition). level_of (x.version).instance v.number) version ∙ short.same ∙ ap upto (let e : short.level ≡ m.grade - 1 = omega (arith, above, same) in e);
+    }
+
+pub marked_mark : (x : Insides) → IsBook x → (g : ℕ) (m : FullMark) → x.full ≡ true → IsShortOf x.version g →
+    opened_grade (x.version).instance (x.version).number ≡ Some m.grade → arc_value m.version ≡ x.version → IsFullMark (place_of (book_in x)) g m
+marked_mark x h g m marked short opened version =
+    let r : IsReached (x.version).instance x.limit (state_in x) = replay_reached (x.version).instance (h.edition).instance x.limit (x.log).entries (state_in x) h.replay in
+    let f = (r.marked marked).1 in
+    full_mark x h g m f.0 short f.2 f.1 (same_Some m.grade f.0 (sym opened ∙ f.1)) version

@@ -6,3 +6,7 @@ pub mod Keeping
 pub mod LevelsSoFar
 pub mod FreshBooks
 pub mod OpeningGrades
+pub mod NextVersions
+pub mod ReadyBooks
+pub mod StepAnswers
+pub mod RunsOn

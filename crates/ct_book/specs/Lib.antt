@@ -5,3 +5,4 @@ pub mod Books
 pub mod Insides
 pub mod Handing
 pub mod Openings
+pub mod Benches

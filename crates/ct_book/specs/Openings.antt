@@ -1,5 +1,6 @@
 -- The level and the jobs that a list of moves opens.
-use Rattle.std.specs.Prelude.{ℕ, ◌-◌, ◌≡◌, Option, Some, None, List}
+use Rattle.std.specs.Prelude.{ℕ, ◌-◌, ◌≡◌, Option, Some, None, List, map}
+use Rattle.std.specs.Option.{unwrap_or}
 use Rattle.ct_instance.specs.Instance.{Problem}
 use Rattle.ct_instance.specs.Versions.{Level, upto, everything, version_list}
 use Rattle.ct_instance.specs.Reach.{opened_grade}
@@ -18,3 +19,7 @@ level_below (Some g) = upto (g - 1)
 abbrev pub HasOpenedJobs : List GradedJob → Option ℕ → QueueSeen → Type 0
 HasOpenedJobs js next q =
     (i : Problem) (k : ℕ) → AreJobsOf i (version_list i k) js → opened_grade i k ≡ next → q ≡ fresh (opened_jobs i k)
+
+-- what resolved jobs left
+abbrev pub left_in : List (Option (Option (List ℕ × List ℕ))) → List (Option (List ℕ × List ℕ))
+left_in stored = map (λ s. unwrap_or s None) stored

@@ -1,18 +1,20 @@
 //! The book.
-ghost use Rattle.std.specs.Prelude.{◌≡◌, ◌≤◌, ◌<◌, ◌+◌, ◌^◌, [], ◌∷◌, ◌++◌, ◌↔◌, ℕ, length, IfOk, OnErr, IsTrue};
+ghost use Rattle.std.specs.Prelude.{◌≡◌, ◌≤◌, ◌<◌, ◌+◌, ◌^◌, [], ◌∷◌, ◌++◌, ◌↔◌, ℕ, length, vec_len, vec_capacity, IsPermutation, IfOk, OnOk, OnErr, MatchResult, IsTrue};
 ghost use Rattle.ct_vectors.specs.declared.limits.TheConstants.{GRADE_LIMIT, MOVE_LIMIT};
 
+use crate::completing::complete;
 use crate::handing::{helped, marked};
 use crate::log::Log;
 use crate::opening::{Opening, opened_above, shared};
-use crate::outcomes::{Committed, Next};
+use crate::outcomes::{Committed, Next, Published, Step};
+use crate::publishing::{Following, moves_left, next_version};
 use crate::queue::Queue;
 use crate::remainders::Remainder;
 use crate::tasks::Task;
 use ct_completion::{Act, Entry};
 use ct_instance::Instance;
 use ct_jobs::{Addition, Buckets};
-use ct_version::{Finished, Version};
+use ct_version::{Finished, Helped, Stop, Version};
 use ct_walk::Moves;
 use std::alloc::{AllocError, Global};
 use std::marker::Model;
@@ -46,8 +48,9 @@ impl Book {
     ghost use Rattle.std.specs.Arc.{arc_value};
     ghost use Rattle.ct_completion.specs.Machine.{just_opened};
     ghost use Rattle.ct_completion.specs.Journal.{entries_of, IsReplay};
+    ghost use Rattle.ct_version.specs.Editions.{IsEdition};
     ghost use Rattle.ct_version.specs.Desks.{IsOfPlace};
-    ghost use Rattle.ct_book.specs.Books.{edition_of, place_of, IsReadyBook, IsNext, IsCommitted, rise_of};
+    ghost use Rattle.ct_book.specs.Books.{edition_of, place_of, IsReadyBook, IsNext, IsCommitted, IsPublished, IsStep, IsRiseOf, CountsRise, IsCompleted, IsEnded, rise_of};
 
     /// A book at version 0, with its grade opened and an empty journal, for an instance, a limit of 1 to 4,096 moves and
     /// 1 to 33 passes. It is linear in the columns.
@@ -90,6 +93,7 @@ impl Book {
     /// The version.
     pub fn version(&self) -> &Arc<Version>
         ensures version { arc_value result.now ≡ edition_of self.now }
+        ensures edition { IsEdition (edition_of self.now) }
         ensures place { IsOfPlace (place_of self.now) (arc_value result.now) }
     {
         &self.version
@@ -171,6 +175,77 @@ impl Book {
         let (place, job) = self.queue.hand_out();
         Ok(Next::Reduce(Task::new(version, place, job)))
     }
+
+    /// Publishes the next version, whose list has the moves that the resolved jobs give, and opens its grade; or marks the
+    /// book full, where that list would have more moves than the limit. Either is written down. For n points that jobs
+    /// left it takes n times the logarithm of n comparisons; beside that it is linear in the jobs of the opened grade and
+    /// of the next, and in the pairs of new moves. After want of memory nothing has changed.
+    pub fn publish(&mut self, alloc: Global, by: u32) -> Result<Published, AllocError>
+        requires pass { by < self.old.passes }
+        requires ready { IsReadyBook self.old }
+        ensures answer { IfOk result (IsPublished self.old by self.new) }
+        ensures refused { OnErr result (self.new ≡ self.old) }
+    {
+        let _left = self.queue.left();
+        let new = moves_left(alloc, self.version.moves().instance(), &self.queue)?;
+        if self.version.moves().len() as usize + new.len() > self.limit as usize {
+            let mark = marked(&self.version)?;
+            self.full = true;
+            self.log.append(by, Act::MarkedFull(mark.grade));
+            return Ok(Published::Full(mark));
+        }
+        let next = next_version(alloc, &self.version, &self.buckets, new)?;
+        let version = Arc::try_clone(&next.version)?;
+        make_room(
+            &mut self.buckets,
+            &mut self.levels,
+            &mut self.log,
+            next.queue.len(),
+        )?;
+        let Following {
+            version: following,
+            more,
+            queue,
+        } = next;
+        self.buckets.absorb(more);
+        self.levels.push_reserved(following.finished());
+        self.log.append(by, Act::Published(following.number()));
+        self.queue = queue;
+        self.version = following;
+        Ok(Published::New(version))
+    }
+
+    /// Does the next step up to the target: what `next` says, and `publish` where that says so. For want of memory nothing
+    /// has changed.
+    pub fn step(&mut self, alloc: Global, by: u32, target: u64) -> Result<Step, AllocError>
+        requires pass { by < self.old.passes }
+        requires target { target ≤ GRADE_LIMIT }
+        ensures answer { IfOk result (IsStep self.old by target self.new) }
+        ensures refused { OnErr result (self.new ≡ self.old) }
+        ensures counts { IfOk result (λ s. (rise : ℕ) × IsRiseOf s rise × CountsRise by rise self.old self.new) }
+    {
+        let _version = self.version();
+        match self.next(target)? {
+            Next::Reached(helped) => Ok(Step::Reached(helped)),
+            Next::Full(mark) => Ok(Step::Full(mark)),
+            Next::Reduce(task) => Ok(Step::Reduce(task)),
+            Next::Publish => match self.publish(alloc, by)? {
+                Published::New(version) => Ok(Step::Published(version)),
+                Published::Full(mark) => Ok(Step::Full(mark)),
+            },
+        }
+    }
+
+    /// Goes on in one thread until the target is covered, or the limit on the number of moves is found to stand before it.
+    /// It always returns. Where the version covers the target already, nothing changes; else the version in the answer is
+    /// the first that covers it. After want of memory the book is one that some steps lead to.
+    pub fn complete(&mut self, alloc: Global, by: u32, target: u64) -> Result<Helped, Stop>
+        requires pass { by < self.old.passes }
+        requires target { target ≤ GRADE_LIMIT }
+        ensures { MatchResult result (IsCompleted self.old target self.new) (IsEnded self.old target self.new) }
+    {
+        complete(self, alloc, by, target)
+    }
 }
 
 // A journal with room for the entries that so many jobs can bring, and one more.
@@ -192,4 +267,26 @@ fn only(alloc: Global, level: Finished) -> Result<Vec<Finished>, AllocError>
     let mut levels = Vec::new(alloc);
     levels.push(level)?;
     Ok(levels)
+}
+
+// Makes room for one addition, one level, and the entries that so many jobs can bring, beside the one of publishing.
+fn make_room(
+    buckets: &mut Buckets,
+    levels: &mut Vec<Finished>,
+    log: &mut Log,
+    jobs: usize,
+) -> Result<(), AllocError>
+    requires { jobs < 2 ^ 63 }
+    ensures jobs { IsPermutation buckets.old.jobs buckets.new.jobs }
+    ensures spare { OnOk result (1 ≤ buckets.new.spare) }
+    ensures levels { levels.new.items ≡ levels.old.items }
+    ensures level_room { OnOk result (vec_len levels.new < vec_capacity levels.new) }
+    ensures entries { log.new.entries ≡ log.old.entries }
+    ensures passes { log.new.passes ≡ log.old.passes }
+    ensures room { log.old.room ≤ log.new.room }
+    ensures entry_room { OnOk result (length log.new.entries + (jobs + 2) ≤ log.new.room) }
+{
+    buckets.reserve()?;
+    levels.reserve(1)?;
+    log.reserve(jobs + 2)
 }

@@ -1,17 +1,21 @@
 //! The completion of a test set, grade by grade, with the journal of what was done.
 #![tactic(auto)]
 
+mod benches;
 mod books;
+mod completing;
 mod ends;
 mod handing;
 mod log;
 mod opening;
 mod outcomes;
+mod publishing;
 mod queue;
 mod reducing;
 mod remainders;
 mod tasks;
 
+pub use benches::Bench;
 pub use books::Book;
 pub use ct_completion::{Act, Entry};
 pub use outcomes::{Committed, Next, Published, Step};

@@ -4,7 +4,9 @@ ghost use Rattle.ct_instance.specs.Made.{indices};
 ghost use Rattle.ct_book.specs.Queues.{slot_seen, waits, waits_at, points_seen};
 
 use crate::ends::Ends;
+use crate::publishing::points_in;
 use ct_instance::Job;
+use ct_point::Point;
 use std::alloc::{AllocError, Global};
 use std::collections::VecDeque;
 use std::marker::Model;
@@ -44,7 +46,10 @@ impl Model for Queue {
 
 impl Queue {
     ghost use Rattle.ct_instance.specs.Made.{indices};
-    ghost use Rattle.ct_book.specs.Queues.{IsQueue, without, leaves_none};
+    ghost use Rattle.ct_completion.specs.Remainders.{points_of};
+    ghost use Rattle.ct_groups.specs.Groups.{points_seen as lent};
+    ghost use Rattle.ct_book.specs.Openings.{left_in};
+    ghost use Rattle.ct_book.specs.Queues.{IsQueue, without};
 
     // All these jobs wait, in their order.
     pub fn new(alloc: Global, jobs: Vec<Job>) -> Result<Queue, AllocError>
@@ -113,24 +118,12 @@ impl Queue {
         self.left -= 1;
     }
 
-    // The job at this place.
-    pub fn job(&self, place: usize) -> Job
-        requires { place < length self.now.jobs }
-        ensures { slice_get self.now.jobs place ≡ Some result }
+    // The points that jobs left.
+    pub fn points(&self, alloc: Global) -> Result<Vec<&Point>, AllocError>
+        ensures points { IfOk result (λ v. lent v.items ≡ points_of (left_in self.now.stored)) }
+        ensures queue { IsQueue self.now }
     {
-        self.jobs[place]
-    }
-
-    // The points that the job at this place left, if it left any.
-    pub fn ends(&self, place: usize) -> Option<&Ends>
-        requires { place < length self.now.jobs }
-        ensures { MatchOption result (leaves_none (get_or self.now.stored place None)) (λ e. get_or self.now.stored place None ≡ Some (Some (e.now.first, e.now.second))) }
-    {
-        match &self.slots[place] {
-            Slot::Waiting => None,
-            Slot::Nothing => None,
-            Slot::Differ(ends) => Some(&**ends),
-        }
+        points_in(alloc, &self.slots)
     }
 }
 

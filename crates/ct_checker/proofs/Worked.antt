@@ -1,16 +1,15 @@
 -- The ledger of two coins of 3 and 5 at cost 2 and 3 up to grade 15, and what is refused after one change, by computation.
-use Rattle.std.proofs.Common.{ℕ, ◌+◌, pos, ◌≡◌, Some, None, List, [], ◌∷◌, ◌++◌, take, drop, refl}
+use Rattle.std.proofs.Common.{ℕ, ◌+◌, ◌≡◌, Some, None, List, [], ◌∷◌, ◌++◌, take, drop, refl}
 use Rattle.ct_instance.specs.declared.jobs.Job.TheVariants.{Generator, Pair}
-use Rattle.ct_instance.specs.Instance.{Problem}
+use Rattle.ct_instance.specs.Fiber.{fiber_of, least_of}
+use Rattle.ct_instance.specs.TestSet.{lists_of, test_moves_at, test_list}
 use Rattle.ct_instance.specs.Jobs.{all_jobs, jobs_at, jobs_up_to}
 use Rattle.ct_checker.specs.declared.verdicts.Reason.TheVariants.{Size, Grade, Degree, Order, Entry, Coprime, Step, End}
 use Rattle.ct_ledger.specs.declared.entries.LedgerEntry.{LedgerEntry}
 use Rattle.ct_ledger.specs.declared.entries.LedgerEntry.TheVariants as entry
 use Rattle.ct_ledger.specs.Parts.{LedgerParts}
+use Rattle.ct_checker.specs.Coins.{coins}
 use Rattle.ct_checker.specs.Refusals.{first_refusal_of}
-
-abbrev coins : Problem
-coins = record { rows = 1; columns = (3 ∷ []) ∷ (5 ∷ []) ∷ []; cost_rows = (pos 2 ∷ pos 3 ∷ []) ∷ [] }
 
 abbrev move_of : List ℕ → List ℕ → List ℕ × List ℕ
 move_of h t = (h, t)
@@ -99,3 +98,10 @@ apart = refl
 move_missing : first_refusal_of coins (ledger (take 4 moves) entries) ≡ Some (15, Step)
 unfolding jobs_up_to jobs_at all_jobs
 move_missing = refl
+
+-- the test list of grade 6
+pub up_to_six : test_list coins 6 ≡
+    record { head = 0 ∷ 0 ∷ 3 ∷ []; tail = 1 ∷ 0 ∷ 0 ∷ [] } ∷ record { head = 1 ∷ 0 ∷ 2 ∷ []; tail = 0 ∷ 1 ∷ 0 ∷ [] } ∷
+    record { head = 0 ∷ 1 ∷ 1 ∷ []; tail = 2 ∷ 0 ∷ 0 ∷ [] } ∷ []
+unfolding test_list test_moves_at lists_of least_of fiber_of
+up_to_six = refl

@@ -22,7 +22,7 @@ verdict_of i l = verdict (first_refusal_of i l)
   where
     verdict : Option (ℕ × Reason) → Verdict
     verdict None = Accepted l.grade (length l.moves)
-    verdict (Some refused) = Refused refused.0 refused.1
+    verdict (Some r) = Refused r.0 r.1
 
 abbrev pub IsAcceptance : Verdict → Type 0
 IsAcceptance (Accepted grade moves) = Unit {0}

@@ -3,4 +3,5 @@ pub mod Refusals
 pub mod Certified
 pub mod JobList
 pub mod Checking
+pub mod Coins
 pub mod Laws

@@ -1,3 +1,4 @@
+//! The new moves of some points.
 ghost use Rattle.ct_groups.specs.Groups.{IsSmallPoint};
 
 use crate::new_moves;

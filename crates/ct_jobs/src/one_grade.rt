@@ -1,3 +1,4 @@
+//! The pairs of one grade.
 /// The pairs of one grade, of which there is one at least: 8 bytes each.
 #[derive(Debug, Drop)]
 pub struct OneGrade {

@@ -57,9 +57,6 @@ step_rank i h ms a p q number times e s = free_step_rank i h ms a p q e (step_is
 pub record Walked (ms : List Binomial) (p : List ℕ) (done : List (ℕ × ℕ)) (q : List ℕ) : Type 0 where
   pub on : (rest : List (ℕ × ℕ)) (r : List ℕ) → IsWalk ms q rest r → IsWalk ms p (done ++ rest) r
 
-pub walked_none : (ms : List Binomial) (p : List ℕ) → Walked ms p [] p
-walked_none ms p = record { on = λ rest r w. w }
-
 pub walked_more : (ms : List Binomial) (p q r : List ℕ) (done : List (ℕ × ℕ)) (number times : ℕ) → Walked ms p done q → IsStep ms q number times r → Walked ms p (done ++ (number, times) ∷ []) r
 walked_more ms p q r done number times w s = record {
   on = λ rest z v. subst (λ (x : List (ℕ × ℕ)). IsWalk ms p x z) (sym (append_assoc done ((number, times) ∷ []) rest)) (w.on ((number, times) ∷ rest) z (walks q r z number times rest s v));

@@ -1,5 +1,6 @@
 -- What the code that makes moves rests on: no coordinate overflows, and steps that a caller names.
 use Rattle.std.proofs.Common.{ℕ, ◌≤◌, ◌<◌, ◌^◌, ◌≡◌, All, Some, List, [], ◌∷◌, ◌++◌, length, get_or, subst, ap, arith}
+use Rattle.ct_vectors.specs.declared.limits.TheConstants.{GRADE_LIMIT}
 use Rattle.std.proofs.lemmas.List.{get_or_default}
 use Rattle.std.proofs.lemmas.List.Elements.{All-weaker}
 use Rattle.ct_vectors.specs.Vectors.{total, scale, Divides, IsTimes}
@@ -22,7 +23,7 @@ pub moved_grade : (i : Problem) (m : Binomial) → IsMove i m → (t : ℕ) (p :
 moved_grade i m a t p e fits = ap total (moved_degree i m a t p e fits)
 
 pub moved_within : (i : Problem) → IsInstance i → (m : Binomial) → IsMove i m → (t : ℕ) (p : List ℕ) → IsPoint i p → Divides (scale t m.head) p →
-    grade_of i.columns p ≤ 16000000000000 → All (λ x. x < 2 ^ 64) (moved m t p)
+    grade_of i.columns p ≤ GRADE_LIMIT → All (λ x. x < 2 ^ 64) (moved m t p)
 moved_within i h m a t p e fits g k d l =
     let same : grade_of i.columns (moved m t p) ≡ grade_of i.columns p = moved_grade i m a t p e fits in
     let sum : total (moved m t p) ≤ grade_of i.columns (moved m t p) = total-le-grade i.rows i.columns (columns i h) (moved m t p) in

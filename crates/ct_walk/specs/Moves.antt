@@ -1,5 +1,6 @@
 -- Moves within the limit of grades, lists of them, and steps that a caller names.
 use Rattle.std.specs.Prelude.{ℕ, ◌≤◌, ◌<◌, ◌≡◌, Some, List, [], ◌∷◌, All, length, take, slice_get}
+use Rattle.ct_vectors.specs.declared.limits.TheConstants.{GRADE_LIMIT, MOVE_LIMIT}
 use Rattle.ct_vectors.specs.Vectors.{scale, Divides}
 use Rattle.ct_instance.specs.Instance.{Problem, IsInstance, degree_of, grade_of}
 use Rattle.ct_instance.specs.Fiber.{IsBelow}
@@ -12,7 +13,7 @@ use Rattle.ct_walk.specs.declared.faults.MoveFault.TheVariants.{Grade, Degree, O
 -- a move of the instance whose head has at most the greatest grade of a walk
 pub record IsSmallMove (i : Problem) (m : Binomial) : Type 0 where
   pub move : IsMove i m
-  pub grade : grade_of i.columns m.head ≤ 16000000000000
+  pub grade : grade_of i.columns m.head ≤ GRADE_LIMIT
 
 -- what a list of moves is seen as: the instance whose moves they are, and the moves in order
 pub record MoveList : Type 0 where
@@ -22,7 +23,7 @@ pub record MoveList : Type 0 where
 pub record IsMoveList (l : MoveList) : Type 0 where
   pub instance : IsInstance l.instance
   pub moves : All (IsSmallMove l.instance) l.moves
-  pub most : length l.moves ≤ 4096
+  pub most : length l.moves ≤ MOVE_LIMIT
 
 -- when each fault of two points comes: the first that holds
 abbrev pub IsFault : Problem → ℕ → List ℕ → List ℕ → MoveFault → Type 0

@@ -1,4 +1,6 @@
+//! A move of an instance.
 ghost use Rattle.std.specs.Prelude.{◌≡◌, ◌≤◌, length, All, IfOk, MatchResult};
+ghost use Rattle.ct_vectors.specs.declared.limits.TheConstants.{GRADE_LIMIT};
 ghost use Rattle.ct_instance.specs.Instance.{IsPoint, grade_of, degree_of};
 ghost use Rattle.ct_instance.specs.Walk.{IsMove};
 ghost use Rattle.ct_walk.specs.Moves.{IsFault};
@@ -31,11 +33,11 @@ impl Move {
     /// The move from the head to the tail, within a limit of the head's grade. It takes no memory; on a fault, the
     /// first that holds, both points are dropped. It is linear in the number of entries of the instance.
     pub fn new(inst: &Instance, limit: u64, head: Point, tail: Point) -> Result<Move, MoveFault>
-        requires limit { limit ≤ 16000000000000 }
+        requires limit { limit ≤ GRADE_LIMIT }
         requires head_point { IsPoint inst.now head }
         requires tail_point { IsPoint inst.now tail }
-        requires head_limit { All (λ x. x ≤ 16000000000000) head }
-        requires tail_limit { All (λ x. x ≤ 16000000000000) tail }
+        requires head_limit { All (λ x. x ≤ GRADE_LIMIT) head }
+        requires tail_limit { All (λ x. x ≤ GRADE_LIMIT) tail }
         ensures { MatchResult result (λ m. (m ≡ record { head = head; tail = tail }) × IsMove inst.now m × (grade_of inst.now.columns head ≤ limit)) (λ e. IsFault inst.now limit head tail e) }
     {
         if inst.grade_wide(&head) > limit as u128 {

@@ -1,5 +1,6 @@
 //! Comparing two points of an instance, with no allocation.
 ghost use Rattle.std.specs.Prelude.{◌≡◌, ◌≤◌, ◌↔◌, IsTrue, All};
+ghost use Rattle.ct_vectors.specs.declared.limits.TheConstants.{GRADE_LIMIT};
 ghost use Rattle.ct_instance.specs.Instance.{IsPoint, grade_of, degree_of};
 ghost use Rattle.ct_instance.specs.Fiber.{IsBelow};
 
@@ -12,8 +13,8 @@ use std::cmp::Ordering;
 pub fn have_one_degree(inst: &Instance, head: &Point, tail: &Point) -> bool
     requires head_point { IsPoint inst.now head.now }
     requires tail_point { IsPoint inst.now tail.now }
-    requires head_grade { grade_of inst.now.columns head.now ≤ 16000000000000 }
-    requires tail_limit { All (λ x. x ≤ 16000000000000) tail.now }
+    requires head_grade { grade_of inst.now.columns head.now ≤ GRADE_LIMIT }
+    requires tail_limit { All (λ x. x ≤ GRADE_LIMIT) tail.now }
     ensures { IsTrue result ↔ (degree_of inst.now.columns tail.now ≡ degree_of inst.now.columns head.now) }
 {
     if inst.grade_wide(tail) != inst.grade(head) as u128 {
@@ -37,8 +38,8 @@ fn are_equal(p: &[u64], q: &[u64]) -> bool
 pub fn is_below(inst: &Instance, p: &Point, q: &Point) -> bool
     requires p_point { IsPoint inst.now p.now }
     requires q_point { IsPoint inst.now q.now }
-    requires p_limit { All (λ x. x ≤ 16000000000000) p.now }
-    requires q_limit { All (λ x. x ≤ 16000000000000) q.now }
+    requires p_limit { All (λ x. x ≤ GRADE_LIMIT) p.now }
+    requires q_limit { All (λ x. x ≤ GRADE_LIMIT) q.now }
     ensures { IsTrue result ↔ IsBelow inst.now p.now q.now }
 {
     let _rows = inst.rows();

@@ -1,3 +1,4 @@
+//! Why two points make no move.
 /// Why two points make no move.
 #[derive(Clone, Copy, Debug, PartialEq, Eq)]
 pub enum MoveFault {

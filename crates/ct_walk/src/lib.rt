@@ -22,4 +22,6 @@ pub use traces::Walk;
 pub use walking::{follow, walk, walk_end};
 
 #[cfg(test)]
+mod long_lists;
+#[cfg(test)]
 mod tests;

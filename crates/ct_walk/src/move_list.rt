@@ -1,5 +1,6 @@
 //! Lists of moves, as slabs that lists share.
 ghost use Rattle.std.specs.Prelude.{◌≡◌, ◌+◌, ◌≤◌, ◌<◌, [], ◌∷◌, ◌++◌, length, map, All, IfOk, OnOk, IfErr};
+ghost use Rattle.ct_vectors.specs.declared.limits.TheConstants.{MOVE_LIMIT};
 ghost use Rattle.std.specs.List.{flat_map};
 ghost use Rattle.std.specs.Arc.{arc_value};
 ghost use Rattle.ct_vectors.specs.Vectors.{IsTimes};
@@ -60,7 +61,7 @@ impl Moves {
     /// before. A last slab that isn't full is made anew.
     pub fn push(&mut self, mv: Move) -> Result<(), (Move, AllocError)>
         requires of_instance { IsSmallMove self.old.instance mv }
-        requires room { length self.old.moves < 4096 }
+        requires room { length self.old.moves < MOVE_LIMIT }
         ensures ok { OnOk result (self.new ≡ record self.old { moves = self.old.moves ++ mv ∷ [] }) }
         ensures err { IfErr result (λ e. (self.new ≡ self.old) × (e.0 ≡ mv)) }
     {
@@ -76,7 +77,7 @@ impl Moves {
     // The slabs of these moves and a copy of this one.
     fn with_copy(&self, mv: &Move) -> Result<Vec<Arc<Slab>>, AllocError>
         requires of_instance { IsSmallMove self.now.instance mv.now }
-        requires room { length self.now.moves < 4096 }
+        requires room { length self.now.moves < MOVE_LIMIT }
         ensures { IfOk result (λ v. IsPaged arc_value v.items × (flat_map arc_value v.items ≡ self.now.moves ++ mv.now ∷ [])) }
     {
         let mut one = Vec::new(self.alloc);
@@ -88,7 +89,7 @@ impl Moves {
     /// last slab that isn't full is made anew with more. For want of memory this list is unchanged, and more is dropped.
     pub fn extended(&self, alloc: Global, more: Vec<Move>) -> Result<Moves, AllocError>
         requires of_instance { All (IsSmallMove self.now.instance) more.items }
-        requires room { length self.now.moves + length more.items ≤ 4096 }
+        requires room { length self.now.moves + length more.items ≤ MOVE_LIMIT }
         ensures { IfOk result (λ l. l ≡ record self.now { moves = self.now.moves ++ more.items }) }
     {
         let inst = Arc::try_clone(&self.inst)?;
@@ -99,7 +100,7 @@ impl Moves {
     // The slabs of these moves and more.
     fn grown(&self, alloc: Global, more: Vec<Move>) -> Result<Vec<Arc<Slab>>, AllocError>
         requires of_instance { All (IsSmallMove self.now.instance) more.items }
-        requires room { length self.now.moves + length more.items ≤ 4096 }
+        requires room { length self.now.moves + length more.items ≤ MOVE_LIMIT }
         ensures { IfOk result (λ v. IsPaged arc_value v.items × (flat_map arc_value v.items ≡ self.now.moves ++ more.items)) }
     {
         if more.is_empty() {
@@ -119,7 +120,7 @@ impl Moves {
     /// The number of moves.
     pub fn len(&self) -> u32
         ensures count { result ≡ length self.now.moves }
-        ensures most { result ≤ 4096 }
+        ensures most { result ≤ MOVE_LIMIT }
     {
         let count = self.slabs.len();
         if count == 0 {

@@ -1,5 +1,6 @@
 //! Slabs of moves: blocks with an index of the heads, full at 128 moves.
 ghost use Rattle.std.specs.Prelude.{◌≡◌, ◌+◌, ◌≤◌, ◌<◌, [], ◌∷◌, ◌++◌, length, map, All, IfOk, OnOk, take};
+ghost use Rattle.ct_vectors.specs.declared.limits.TheConstants.{MOVE_LIMIT};
 ghost use Rattle.std.specs.List.{flat_map};
 ghost use Rattle.std.specs.Arc.{arc_value};
 ghost use Rattle.ct_index.specs.Pages.{ArePages, IsPaged, AreFullBelow};
@@ -34,7 +35,7 @@ pub fn grown(
 ) -> Result<Vec<Arc<Slab>>, AllocError>
     requires pages { ArePages arc_value slabs.now }
     requires of_instance { All (IsSmallMove inst.now) (flat_map arc_value slabs.now ++ more.items) }
-    requires room { length (flat_map arc_value slabs.now ++ more.items) ≤ 4096 }
+    requires room { length (flat_map arc_value slabs.now ++ more.items) ≤ MOVE_LIMIT }
     ensures { IfOk result (λ v. IsPaged arc_value v.items × (flat_map arc_value v.items ≡ flat_map arc_value slabs.now ++ more.items)) }
 {
     let full = full_count(slabs);

@@ -1,4 +1,6 @@
+//! The moves of coins of 3 and 5, their walks, and lists made in parts.
 ghost use Rattle.std.specs.Prelude.{◌≤◌, ◌+◌, ◌<◌, ◌≡◌, length, All};
+ghost use Rattle.ct_vectors.specs.declared.limits.TheConstants.{GRADE_LIMIT, MOVE_LIMIT};
 ghost use Rattle.ct_instance.specs.Instance.{IsPoint};
 ghost use Rattle.std.specs.Arc.{arc_value};
 ghost use Rattle.ct_walk.specs.Moves.{IsSmallMove};
@@ -6,6 +8,7 @@ ghost use Rattle.ct_walk.specs.Moves.{IsSmallMove};
 use crate::{Move, MoveFault, Moves, follow, walk, walk_end};
 use ct_instance::Instance;
 use ct_point::Point;
+use ct_vectors::limits::GRADE_LIMIT;
 use std::alloc::Global;
 use std::process::Abort;
 use std::sync::Arc;
@@ -37,13 +40,13 @@ fn made(rt: &impl Abort, alloc: Global, inst: &Instance, k: usize) -> Move
     let (head, tail) = MOVES[k];
     let head = point(rt, alloc, inst, head);
     let tail = point(rt, alloc, inst, tail);
-    Move::new(inst, 16_000_000_000_000, head, tail).expect(rt, "a move")
+    Move::new(inst, GRADE_LIMIT, head, tail).expect(rt, "a move")
 }
 
 fn add(rt: &impl Abort, alloc: Global, moves: &mut Moves, inst: &Arc<Instance>, k: usize)
     requires index { k < 5 }
     requires instance { moves.old.instance ≡ arc_value inst.now }
-    requires room { length moves.old.moves < 4096 }
+    requires room { length moves.old.moves < MOVE_LIMIT }
     ensures instance { moves.new.instance ≡ arc_value inst.now }
     ensures more { length moves.new.moves ≡ length moves.old.moves + 1 }
 {
@@ -56,7 +59,7 @@ fn add(rt: &impl Abort, alloc: Global, moves: &mut Moves, inst: &Arc<Instance>, 
 fn with_last(rt: &impl Abort, alloc: Global, moves: &Moves, inst: &Arc<Instance>, k: usize) -> Moves
     requires index { k < 5 }
     requires instance { moves.now.instance ≡ arc_value inst.now }
-    requires room { length moves.now.moves < 4096 }
+    requires room { length moves.now.moves < MOVE_LIMIT }
     ensures instance { result.instance ≡ arc_value inst.now }
     ensures more { length result.moves ≡ length moves.now.moves + 1 }
 {
@@ -121,7 +124,7 @@ fn refused(
     head: [u64; 3],
     tail: [u64; 3],
 ) -> Option<MoveFault>
-    requires { limit ≤ 16000000000000 }
+    requires { limit ≤ GRADE_LIMIT }
 {
     let head = point(rt, alloc, inst, head);
     let tail = point(rt, alloc, inst, tail);

@@ -1,3 +1,4 @@
+//! Walks with their steps.
 ghost use Rattle.std.specs.Prelude.{◌≡◌};
 
 use ct_point::Point;

@@ -1,4 +1,6 @@
+//! Walking, and following steps that a caller names.
 ghost use Rattle.std.specs.Prelude.{◌≡◌, ◌≤◌, length, MatchOption, IfOk, OnOk, IfErr, IsTrue, ◌↔◌};
+ghost use Rattle.ct_vectors.specs.declared.limits.TheConstants.{GRADE_LIMIT};
 ghost use Rattle.ct_instance.specs.Instance.{IsPoint, grade_of};
 ghost use Rattle.ct_instance.specs.Walk.{IsNormal, IsStep, IsWalk, IsWalkEnd, moved};
 ghost use Rattle.ct_vectors.specs.Vectors.{scale, Divides};
@@ -14,7 +16,7 @@ use std::alloc::{AllocError, Global};
 /// want of memory p is dropped.
 pub fn walk(alloc: Global, moves: &Moves, p: Point) -> Result<Walk, AllocError>
     requires point { IsPoint moves.now.instance p }
-    requires grade { grade_of moves.now.instance.columns p ≤ 16000000000000 }
+    requires grade { grade_of moves.now.instance.columns p ≤ GRADE_LIMIT }
     ensures { IfOk result (λ w. IsWalk moves.now.moves p w.steps w.end) }
 {
     let _inst = moves.instance();
@@ -29,7 +31,7 @@ pub fn walk(alloc: Global, moves: &Moves, p: Point) -> Result<Walk, AllocError>
 /// Moves p to the end of its walk. It takes no memory.
 pub fn walk_end(moves: &Moves, p: &mut Point)
     requires point { IsPoint moves.now.instance p.old }
-    requires grade { grade_of moves.now.instance.columns p.old ≤ 16000000000000 }
+    requires grade { grade_of moves.now.instance.columns p.old ≤ GRADE_LIMIT }
     ensures { IsWalkEnd moves.now.moves p.old p.new }
 {
     let _inst = moves.instance();
@@ -39,7 +41,7 @@ pub fn walk_end(moves: &Moves, p: &mut Point)
 // One step of the walk: the first move that fits, as many times as it fits. Where none fits, the point stays.
 fn step_on(moves: &Moves, p: &mut Point) -> Option<(u32, u64)>
     requires point { IsPoint moves.now.instance p.old }
-    requires grade { grade_of moves.now.instance.columns p.old ≤ 16000000000000 }
+    requires grade { grade_of moves.now.instance.columns p.old ≤ GRADE_LIMIT }
     ensures step { MatchOption result (IsNormal moves.now.moves p.old × (p.new ≡ p.old)) (λ s. IsStep moves.now.moves p.old s.0 s.1 p.new) }
     ensures point { IsPoint moves.now.instance p.new }
     ensures grade { grade_of moves.now.instance.columns p.new ≡ grade_of moves.now.instance.columns p.old }
@@ -59,7 +61,7 @@ fn make_move(moves: &Moves, number: u32, times: u64, p: &mut Point)
     requires some { 1 ≤ number }
     requires within { number ≤ length moves.now.moves }
     requires point { IsPoint moves.now.instance p.old }
-    requires grade { grade_of moves.now.instance.columns p.old ≤ 16000000000000 }
+    requires grade { grade_of moves.now.instance.columns p.old ≤ GRADE_LIMIT }
     requires fits { Divides (scale times (the_move moves.now.moves number).head) p.old }
     ensures moved { p.new ≡ moved (the_move moves.now.moves number) times p.old }
     ensures point { IsPoint moves.now.instance p.new }
@@ -75,7 +77,7 @@ fn make_move(moves: &Moves, number: u32, times: u64, p: &mut Point)
 /// It takes no memory.
 pub fn follow(moves: &Moves, p: &mut Point, steps: &[(u32, u64)]) -> Result<(), usize>
     requires point { IsPoint moves.now.instance p.old }
-    requires grade { grade_of moves.now.instance.columns p.old ≤ 16000000000000 }
+    requires grade { grade_of moves.now.instance.columns p.old ≤ GRADE_LIMIT }
     ensures ok { OnOk result (Follows moves.now.moves p.old steps.now p.new) }
     ensures refused { IfErr result (λ k. IsRefused moves.now.moves p.old steps.now k p.new) }
 {

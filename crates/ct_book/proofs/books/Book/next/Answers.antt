@@ -1,15 +1,16 @@
-use Rattle.std.proofs.Common.{◌≡◌, ℕ, ◌+◌, false, true≢false, Some, List, [], drop, sym, ap, subst, ◌∙◌, refl, arith}
+use Rattle.std.proofs.Common.{◌≡◌, ℕ, ◌+◌, true, false, true≢false, Some, List, [], drop, sym, ap, subst, ◌∙◌, refl, arith}
 use Rattle.std.specs.Arc.{arc_value}
 use Rattle.ct_instance.specs.declared.jobs.Job.{Job}
 use Rattle.ct_instance.specs.Versions.{Level, Covers, level_of}
 use Rattle.ct_instance.specs.Reach.{opened_grade}
 use Rattle.ct_completion.specs.Machine.{hands_out}
+use Rattle.ct_version.specs.Desks.{IsHelp, IsFullMark}
 use Rattle.ct_version.specs.Editions.{Edition, level_seen}
 use Rattle.ct_book.specs.Queues.{QueueSeen}
 use Rattle.ct_book.specs.Tasks.{TaskSeen, IsTask}
-use Rattle.ct_book.specs.Books.{BookSeen, IsCovered, IsReadyBook, Steps, edition_of}
+use Rattle.ct_book.specs.Books.{BookSeen, IsCovered, IsReadyBook, Steps, edition_of, place_of}
 use Rattle.ct_book.specs.Insides.{Insides, book_in, IsBook}
-use Rattle.ct_book.proofs.Keeping.{inside_of, IsShortOf, short_of, is_task, handed_kept, ready_iff}
+use Rattle.ct_book.proofs.Keeping.{inside_of, IsShortOf, short_of, is_task, handed_kept, ready_iff, reached_help, marked_mark}
 use Rattle.ct_book.proofs.books.Book.next.Goals as goal
 
 pub marked-requires : goal.marked-requires
@@ -77,3 +78,38 @@ returns-clause-answer c =
           (subst (λ (j : Job). Steps (book_in x) (hands_out j) [] (book_in (inside_of x.version x.limit x.full x.levels x.jobs c.hand_out-place.new.self x.log)))
           (sym (ap (λ (t : TaskSeen). t.job) c.new.ensures)) after);
     }
+
+pub returns-then-covers-clause-answer : goal.returns-then-covers-clause-answer
+returns-then-covers-clause-answer c =
+    let x : Insides = (inside_of (arc_value c.self.inside.version) c.self.inside.limit c.self.inside.full c.self.inside.levels.items c.self.inside.buckets.jobs c.self.inside.queue c.self.inside.log) in
+    let level : level_seen c.finished.result ≡ level_of (x.version).instance (x.version).number =
+    c.finished.ensures ∙ ap (λ (v : Edition). level_of v.instance v.number) c.deref.ensures in
+    let covers : Covers (level_of (x.version).instance (x.version).number) c.args.target =
+    subst (λ (l : Level). Covers l c.args.target) level (c.if-covers.ensures.0 refl) in (
+      record {
+        covers = subst (λ (b : BookSeen). IsCovered b c.args.target) c.self.view_is covers;
+        version = c.in_ok-helped.ensures.version ∙ ap edition_of c.self.view_is;
+        help = subst (λ (b : BookSeen). IsHelp (place_of b) c.args.target c.in_ok-helped.field-0) c.self.view_is
+            (reached_help x c.self.invariant c.args.target c.in_ok-helped.field-0 covers c.in_ok-helped.ensures.version c.in_ok-helped.ensures.level);
+      },
+      refl,
+    )
+
+pub returns-then-self-clause-answer : goal.returns-then-self-clause-answer
+returns-then-self-clause-answer c =
+    let x : Insides = (inside_of (arc_value c.self.inside.version) c.self.inside.limit c.self.inside.full c.self.inside.levels.items c.self.inside.buckets.jobs c.self.inside.queue c.self.inside.log) in
+    let level : level_seen c.finished.result ≡ level_of (x.version).instance (x.version).number =
+    c.finished.ensures ∙ ap (λ (v : Edition). level_of v.instance v.number) c.deref.ensures in
+    let beyond : Covers (level_of (x.version).instance (x.version).number) c.args.target → ⊥ =
+    λ h. true≢false (sym (c.if-covers.ensures.1 (subst (λ (l : Level). Covers l c.args.target) (sym level) h))) in
+    let short : IsShortOf x.version c.args.target = short_of x.version c.args.target beyond in (
+      record {
+        beyond = subst (λ (b : BookSeen). IsCovered b c.args.target → ⊥) c.self.view_is beyond;
+        full = subst (λ (b : BookSeen). (b.state).full ≡ true) c.self.view_is c.if-self.true;
+        grade = subst (λ (b : BookSeen). opened_grade b.instance (b.state).number ≡ Some c.in_ok-marked.field-0.grade) c.self.view_is c.in_ok-marked.ensures.grade;
+        version = c.in_ok-marked.ensures.version ∙ ap edition_of c.self.view_is;
+        mark = subst (λ (b : BookSeen). IsFullMark (place_of b) c.args.target c.in_ok-marked.field-0) c.self.view_is
+            (marked_mark x c.self.invariant c.args.target c.in_ok-marked.field-0 c.if-self.true short c.in_ok-marked.ensures.grade c.in_ok-marked.ensures.version);
+      },
+      refl,
+    )

@@ -1,9 +1,9 @@
 -- Numbers and steps read one after the other, as a loop does.
-use Rattle.std.proofs.Common.{◌≡◌, ℕ, suc, List, [], ◌∷◌, ◌++◌, length, Option, Some, None, refl, sym, ap, ◌∙◌, append_assoc}
+use Rattle.std.proofs.Common.{◌≡◌, ℕ, suc, List, [], ◌∷◌, ◌++◌, length, Option, Some, None, refl, sym, ap, ◌∙◌, append_assoc, Bool, true, false, drop}
 use Rattle.std.proofs.lemmas.List.{append-nil}
 use Rattle.ct_lines.specs.declared.stop.LineStop.{LineStop}
 use Rattle.ct_lines.specs.declared.stop.LineStop.TheVariants.{Refused, Memory}
-use Rattle.ct_lines.specs.Reading.{◌>>=◌, Fails, number_left, numbers_left, step_of, first_step, steps_left}
+use Rattle.ct_lines.specs.Reading.{◌>>=◌, Fails, number_left, numbers_left, step_of, first_step, steps_left, until_left}
 
 -- ---- numbers
 
@@ -85,3 +85,31 @@ first_step-shorter (word ∷ words) rest step e = go (step_of word) refl e
     go : (found : Option (ℕ × ℕ)) → step_of word ≡ found → found_before words found ≡ Some (step, rest) → suc (length rest) ≡ length (word ∷ words)
     go None is e = absurd cc
     go (Some s) is e = rw (ap (λ (x : (ℕ × ℕ) × List (List ℕ)). x.1) (some_same e)) refl
+
+-- ---- items until their end
+
+module _ {X : Type 0} (one : List (List ℕ) → Option (X × List (List ℕ))) (stops : List (List ℕ) → Bool) (front : List X) (most : ℕ) (words : List (List ℕ)) (whole : Option (List X × List (List ℕ))) (so_far : with_front front (until_left one stops most words) ≡ whole) where
+  pub until_more : (later : ℕ) (x : X) (next : List (List ℕ)) → most ≡ suc later → one words ≡ Some (x, next) → stops next ≡ false → with_front (front ++ x ∷ []) (until_left one stops later next) ≡ whole
+  unfolding until_left
+  until_more later x next some is goes =
+      let step : until_left one stops most words ≡ (until_left one stops later next >>= λ y. Some (x ∷ y.0, y.1)) = rw (some, is, goes) refl in
+      sym (regroup front x (until_left one stops later next)) ∙ ap (with_front front) (sym step) ∙ so_far
+
+  pub until_end : (later : ℕ) (x : X) (next : List (List ℕ)) → most ≡ suc later → one words ≡ Some (x, next) → stops next ≡ true → whole ≡ Some (front ++ x ∷ [], drop 1 next)
+  unfolding until_left
+  until_end later x next some is ends =
+      let step : until_left one stops most words ≡ Some (x ∷ [], drop 1 next) = rw (some, is, ends) refl in
+      sym so_far ∙ ap (with_front front) step
+
+  pub until_stop : (stop : LineStop) (later : ℕ) → most ≡ suc later → Fails stop (one words) → Fails stop whole
+  unfolding until_left
+  until_stop Memory later some fault = tt
+  until_stop Refused later some fault =
+      let none : until_left one stops most words ≡ None = rw (some, fault) refl in
+      sym so_far ∙ ap (with_front front) none
+
+  pub until_none : most ≡ 0 → whole ≡ None
+  unfolding until_left
+  until_none none =
+      let last : until_left one stops most words ≡ None = rw none refl in
+      sym so_far ∙ ap (with_front front) last

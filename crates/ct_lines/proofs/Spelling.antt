@@ -1,5 +1,8 @@
 -- A line is read exactly where it spells the value.
 use Rattle.std.proofs.Common.{◌≡◌, ℕ, zero, suc, ◌<◌, ◌≤◌, ◌^◌, Bool, true, false, cond, leb, List, [], ◌∷◌, ◌++◌, length, map, drop, decimal, Option, Some, None, Result, Ok, Err, refl, sym, ap, ◌∙◌, inl, inr, ◌⊎◌, arith, codes, lit<, eqb, ◌&&◌}
+use Rattle.std.specs.Prelude.{ℤ, pos, negsuc, unsigned_abs}
+use Rattle.std.specs.Fmt.{signed_decimal}
+use Rattle.std.proofs.lemmas.List.{append-nil}
 use Rattle.std.specs.List.{AllByRecursion, list_all}
 use Rattle.std.specs.Char.{is_ascii_digit}
 use Rattle.std.proofs.lemmas.Bool.Decides.{nat_tests}
@@ -9,15 +12,15 @@ use Rattle.std.proofs.lemmas.Bool.{le-leb, leb-true}
 use Rattle.std.proofs.lemmas.Slice.Eq.{bytes_eq-Decides}
 use Rattle.ct_vectors.specs.declared.limits.TheConstants.{GRADE_LIMIT, MOVE_LIMIT}
 use Rattle.ct_text.specs.declared.number.NumberFault.{NumberFault}
-use Rattle.ct_text.specs.Numbers.{natural_of}
+use Rattle.ct_text.specs.Numbers.{natural_of, signed_of}
 use Rattle.ct_text.specs.Pieces.{split}
 use Rattle.ct_text.specs.PiecesLaw.{lacks}
-use Rattle.ct_text.proofs.Decimals.{AreDigits, decimal_is_digits, decimal_some, decimal_from_natural, natural_from_decimal}
+use Rattle.ct_text.proofs.Decimals.{AreDigits, decimal_is_digits, decimal_some, decimal_from_natural, natural_from_decimal, signed_decimal_from_signed, signed_from_signed_decimal}
 use Rattle.ct_text.proofs.Splits.{Lack, join-split, split-join}
 use Rattle.ct_lines.proofs.TextLines.{IsSpelled, lacks-append}
 use Rattle.ct_lines.specs.Texts.{IsStep, step_word, walk_words}
-use Rattle.ct_lines.specs.Reading.{◌>>=◌, is_next, word_left, at_least, number_of, number_left, numbers_left, step_in_parts, step_of, first_step, steps_left, some_steps, walk_left}
-use Rattle.ct_lines.specs.Wording.{Wording, done, barred, word, number, numbers, walk, fork, read, Spells}
+use Rattle.ct_lines.specs.Reading.{◌>>=◌, is_next, word_left, at_least, number_of, number_left, numbers_left, step_in_parts, step_of, first_step, steps_left, some_steps, walk_left, if_ok, signed_left, until_left, signeds_left, is_last, rest_left}
+use Rattle.ct_lines.specs.Wording.{Wording, done, barred, word, number, numbers, rest, signeds, walk, fork, read, Spells}
 
 pub some_same : {X : Type 0} {x y : X} → Some x ≡ Some y → x ≡ y
 some_same e = cc
@@ -36,10 +39,10 @@ next_is : (w : List ℕ) (words : List (List ℕ)) → is_next w words ≡ true 
 next_is w [] e = absurd cc
 next_is w (v ∷ words) e = ap (λ (u : List ℕ). u ∷ words) ((bytes_eq-Decides v w).0 e)
 
-word_parts : (w : List ℕ) (words rest : List (List ℕ)) → word_left w words ≡ Some rest → words ≡ w ∷ rest
-word_parts w words rest e = go (is_next w words) refl e
+word_parts : (w : List ℕ) (words left : List (List ℕ)) → word_left w words ≡ Some left → words ≡ w ∷ left
+word_parts w words left e = go (is_next w words) refl e
   where
-    go : (test : Bool) → is_next w words ≡ test → cond test (Some (drop 1 words)) None ≡ Some rest → words ≡ w ∷ rest
+    go : (test : Bool) → is_next w words ≡ test → cond test (Some (drop 1 words)) None ≡ Some left → words ≡ w ∷ left
     go true is e = next_is w words is ∙ ap (λ (us : List (List ℕ)). w ∷ us) (some_same e)
     go false is e = absurd cc
 
@@ -62,47 +65,57 @@ number_of_parts low high n w small e =
 pub number_of_decimal : (low high n : ℕ) → high < 2 ^ 64 → low ≤ n → n ≤ high → number_of low high (decimal n) ≡ Some n
 number_of_decimal low high n small least most = rw (natural_from_decimal (decimal n) high n (omega arith) (refl, most), le-leb low n least) refl
 
-number_parts : (low high n : ℕ) (words rest : List (List ℕ)) → high < 2 ^ 64 → number_left low high words ≡ Some (n, rest) → (words ≡ decimal n ∷ rest) × (low ≤ n) × (n ≤ high)
-number_parts low high n [] rest small e = absurd cc
-number_parts low high n (w ∷ words) rest small e =
-    let p = bind_parts (number_of low high w) (λ k. Some (k, words)) (n, rest) e in
+number_parts : (low high n : ℕ) (words left : List (List ℕ)) → high < 2 ^ 64 → number_left low high words ≡ Some (n, left) → (words ≡ decimal n ∷ left) × (low ≤ n) × (n ≤ high)
+number_parts low high n [] left small e = absurd cc
+number_parts low high n (w ∷ words) left small e =
+    let p = bind_parts (number_of low high w) (λ k. Some (k, words)) (n, left) e in
     let same = some_same p.2 in
     let is : p.0 ≡ n = ap (λ (x : ℕ × List (List ℕ)). x.0) same in
-    let left : words ≡ rest = ap (λ (x : ℕ × List (List ℕ)). x.1) same in
+    let later : words ≡ left = ap (λ (x : ℕ × List (List ℕ)). x.1) same in
     let q = number_of_parts low high n w small (p.1 ∙ ap (λ k. Some k) is) in
-    (rw (q.0, left) refl, q.1, q.2)
+    (rw (q.0, later) refl, q.1, q.2)
 
 -- ---- numbers
 
-join_numbers : (high count n : ℕ) (others ns : List ℕ) (words next left rest : List (List ℕ)) → words ≡ decimal n ∷ next → n ≤ high → next ≡ map decimal others ++ left → length others ≡ count → AllByRecursion (λ n. n ≤ high) others
-    → n ∷ others ≡ ns → left ≡ rest → (words ≡ map decimal ns ++ rest) × (length ns ≡ suc count) × AllByRecursion (λ n. n ≤ high) ns
-join_numbers high count n others ns words next left rest first most later many below is same =
+join_numbers : (high count n : ℕ) (others ns : List ℕ) (words next after left : List (List ℕ)) → words ≡ decimal n ∷ next → n ≤ high → next ≡ map decimal others ++ after → length others ≡ count → AllByRecursion (λ n. n ≤ high) others
+    → n ∷ others ≡ ns → after ≡ left → (words ≡ map decimal ns ++ left) × (length ns ≡ suc count) × AllByRecursion (λ n. n ≤ high) ns
+join_numbers high count n others ns words next after left first most later many below is same =
     rw (← is, ← same) (first ∙ ap (λ (us : List (List ℕ)). decimal n ∷ us) later, ap suc many, (most, below))
 
-numbers_parts : (count high : ℕ) (ns : List ℕ) (words rest : List (List ℕ)) → high < 2 ^ 64 → numbers_left count high words ≡ Some (ns, rest)
-    → (words ≡ map decimal ns ++ rest) × (length ns ≡ count) × AllByRecursion (λ n. n ≤ high) ns
+numbers_parts : (count high : ℕ) (ns : List ℕ) (words left : List (List ℕ)) → high < 2 ^ 64 → numbers_left count high words ≡ Some (ns, left)
+    → (words ≡ map decimal ns ++ left) × (length ns ≡ count) × AllByRecursion (λ n. n ≤ high) ns
 unfolding numbers_left
-numbers_parts zero high ns words rest small e =
+numbers_parts zero high ns words left small e =
     let same = some_same e in
     let none : [] ≡ ns = ap (λ (x : List ℕ × List (List ℕ)). x.0) same in
-    let left : words ≡ rest = ap (λ (x : List ℕ × List (List ℕ)). x.1) same in
-    rw (← none, left) (refl, refl, tt)
-numbers_parts (suc count) high ns words rest small e =
-    let p = bind_parts (number_left 0 high words) (λ x. numbers_left count high x.1 >>= λ y. Some (x.0 ∷ y.0, y.1)) (ns, rest) e in
-    let q = bind_parts (numbers_left count high p.0.1) (λ y. Some (p.0.0 ∷ y.0, y.1)) (ns, rest) p.2 in
+    let later : words ≡ left = ap (λ (x : List ℕ × List (List ℕ)). x.1) same in
+    rw (← none, later) (refl, refl, tt)
+numbers_parts (suc count) high ns words left small e =
+    let p = bind_parts (number_left 0 high words) (λ x. numbers_left count high x.1 >>= λ y. Some (x.0 ∷ y.0, y.1)) (ns, left) e in
+    let q = bind_parts (numbers_left count high p.0.1) (λ y. Some (p.0.0 ∷ y.0, y.1)) (ns, left) p.2 in
     let same = some_same q.2 in
     let is : p.0.0 ∷ q.0.0 ≡ ns = ap (λ (x : List ℕ × List (List ℕ)). x.0) same in
-    let left : q.0.1 ≡ rest = ap (λ (x : List ℕ × List (List ℕ)). x.1) same in
+    let later : q.0.1 ≡ left = ap (λ (x : List ℕ × List (List ℕ)). x.1) same in
     let first = number_parts 0 high p.0.0 words p.0.1 small p.1 in
     let others = numbers_parts count high q.0.0 p.0.1 q.0.1 small q.1 in
-    join_numbers high count p.0.0 q.0.0 ns words p.0.1 q.0.1 rest first.0 first.2 others.0 others.1 others.2 is left
+    join_numbers high count p.0.0 q.0.0 ns words p.0.1 q.0.1 left first.0 first.2 others.0 others.1 others.2 is later
 
-numbers_of : (count high : ℕ) (ns : List ℕ) (rest : List (List ℕ)) → high < 2 ^ 64 → length ns ≡ count → AllByRecursion (λ n. n ≤ high) ns → numbers_left count high (map decimal ns ++ rest) ≡ Some (ns, rest)
+-- a word is the text of a number exactly where it is read as it
+pub numbered_word : (w : List ℕ) (n : ℕ) → n < 2 ^ 64 → bytes_eq w (decimal n) ≡ true → natural_of w n ≡ Ok n
+numbered_word w n small e = natural_from_decimal w n n (omega arith) ((bytes_eq-Decides w (decimal n)).0 e, omega arith)
+
+pub word_numbered : (w : List ℕ) (n : ℕ) → n < 2 ^ 64 → natural_of w n ≡ Ok n → bytes_eq w (decimal n) ≡ true
+word_numbered w n small e = (bytes_eq-Decides w (decimal n)).1 (decimal_from_natural w n n (omega arith) e).0
+
+pub numbered_left : (w : List ℕ) (n : ℕ) (now others new : List (List ℕ)) → n < 2 ^ 64 → natural_of w n ≡ Ok n → now ≡ w ∷ others → new ≡ drop 1 now → word_left (decimal n) now ≡ Some new
+numbered_left w n now others new small e front after = rw (after, front, word_numbered w n small e) refl
+
+numbers_of : (count high : ℕ) (ns : List ℕ) (left : List (List ℕ)) → high < 2 ^ 64 → length ns ≡ count → AllByRecursion (λ n. n ≤ high) ns → numbers_left count high (map decimal ns ++ left) ≡ Some (ns, left)
 unfolding numbers_left
-numbers_of zero high [] rest small e h = refl
-numbers_of zero high (n ∷ ns) rest small e h = absurd (omega arith)
-numbers_of (suc count) high [] rest small e h = absurd (omega arith)
-numbers_of (suc count) high (n ∷ ns) rest small e h = rw (number_of_decimal 0 high n small (omega arith) h.0, numbers_of count high ns rest small (omega arith) h.1) refl
+numbers_of zero high [] left small e h = refl
+numbers_of zero high (n ∷ ns) left small e h = absurd (omega arith)
+numbers_of (suc count) high [] left small e h = absurd (omega arith)
+numbers_of (suc count) high (n ∷ ns) left small e h = rw (number_of_decimal 0 high n small (omega arith) h.0, numbers_of count high ns left small (omega arith) h.1) refl
 
 -- ---- a step
 
@@ -161,14 +174,14 @@ no_step_word byte others step words out h = differs (decimal step.0) (decimal_is
     differs [] d some = absurd (omega arith)
     differs (x ∷ ds) d some = and_left (eqb x byte) (bytes_eq (ds ++ (42 ∷ decimal step.1)) others) (digit_is byte x out (both (is_ascii_digit x) (list_all is_ascii_digit ds) d).0)
 
-steps_of : (steps : List (ℕ × ℕ)) (rest : List (List ℕ)) → AllByRecursion IsStep steps → first_step rest ≡ None → steps_left (map step_word steps ++ rest) ≡ (steps, rest)
-steps_of [] rest h none = no_step_parts rest none
-steps_of (step ∷ steps) rest h none = rw (step_of_word step h.0, steps_of steps rest h.1 none) refl
+steps_of : (steps : List (ℕ × ℕ)) (left : List (List ℕ)) → AllByRecursion IsStep steps → first_step left ≡ None → steps_left (map step_word steps ++ left) ≡ (steps, left)
+steps_of [] left h none = no_step_parts left none
+steps_of (step ∷ steps) left h none = rw (step_of_word step h.0, steps_of steps left h.1 none) refl
 
-walk_of : (steps : List (ℕ × ℕ)) (rest : List (List ℕ)) → AllByRecursion IsStep steps → (steps ≡ []) ⊎ (first_step rest ≡ None) → walk_left (walk_words steps ++ rest) ≡ Some (steps, rest)
-walk_of [] rest h ends = refl
-walk_of (step ∷ steps) rest h (inl none) = absurd cc
-walk_of (step ∷ steps) rest h (inr ends) = rw (no_step_word 45 [] step (map step_word steps ++ rest) (inr (lit< tt)) h.0, steps_of (step ∷ steps) rest h ends) refl
+walk_of : (steps : List (ℕ × ℕ)) (left : List (List ℕ)) → AllByRecursion IsStep steps → (steps ≡ []) ⊎ (first_step left ≡ None) → walk_left (walk_words steps ++ left) ≡ Some (steps, left)
+walk_of [] left h ends = refl
+walk_of (step ∷ steps) left h (inl none) = absurd cc
+walk_of (step ∷ steps) left h (inr ends) = rw (no_step_word 45 [] step (map step_word steps ++ left) (inr (lit< tt)) h.0, steps_of (step ∷ steps) left h ends) refl
 
 -- the steps that stand next, and what follows them
 record AreSteps (words : List (List ℕ)) (found : List (ℕ × ℕ) × List (List ℕ)) : Type 0 where
@@ -190,39 +203,137 @@ steps_are [] = record { parts = refl; steps = tt; last = refl }
 steps_are (w ∷ words) = steps_more w words (step_of w) refl (steps_are words)
 
 abbrev IsWalk : List (List ℕ) → List (ℕ × ℕ) → List (List ℕ) → Type 0
-IsWalk words steps rest = (words ≡ walk_words steps ++ rest) × AllByRecursion IsStep steps × ((steps ≡ []) ⊎ (first_step rest ≡ None))
+IsWalk words steps left = (words ≡ walk_words steps ++ left) × AllByRecursion IsStep steps × ((steps ≡ []) ⊎ (first_step left ≡ None))
 
-some_steps_are : (words rest : List (List ℕ)) (found : List (ℕ × ℕ) × List (List ℕ)) (steps : List (ℕ × ℕ)) → AreSteps words found → some_steps found ≡ Some (steps, rest) → IsWalk words steps rest
-some_steps_are words rest ([], left) steps h e = absurd cc
-some_steps_are words rest (step ∷ others, left) steps h e =
+some_steps_are : (words left : List (List ℕ)) (found : List (ℕ × ℕ) × List (List ℕ)) (steps : List (ℕ × ℕ)) → AreSteps words found → some_steps found ≡ Some (steps, left) → IsWalk words steps left
+some_steps_are words left ([], after) steps h e = absurd cc
+some_steps_are words left (step ∷ others, after) steps h e =
     let same = some_same e in
     let is : step ∷ others ≡ steps = ap (λ (x : List (ℕ × ℕ) × List (List ℕ)). x.0) same in
-    let last : left ≡ rest = ap (λ (x : List (ℕ × ℕ) × List (List ℕ)). x.1) same in
-    walk_joined words left rest step others steps h.parts h.steps h.last is last
+    let last : after ≡ left = ap (λ (x : List (ℕ × ℕ) × List (List ℕ)). x.1) same in
+    walk_joined words after left step others steps h.parts h.steps h.last is last
   where
-    walk_joined : (words left rest : List (List ℕ)) (step : ℕ × ℕ) (others steps : List (ℕ × ℕ)) → words ≡ map step_word (step ∷ others) ++ left → AllByRecursion IsStep (step ∷ others) → first_step left ≡ None → step ∷ others ≡ steps → left ≡ rest → IsWalk words steps rest
-    walk_joined words left rest step others steps parts all last is same = rw (← is, ← same) (parts, all, inr last)
+    walk_joined : (words after left : List (List ℕ)) (step : ℕ × ℕ) (others steps : List (ℕ × ℕ)) → words ≡ map step_word (step ∷ others) ++ after → AllByRecursion IsStep (step ∷ others) → first_step after ≡ None → step ∷ others ≡ steps → after ≡ left → IsWalk words steps left
+    walk_joined words after left step others steps parts all last is same = rw (← is, ← same) (parts, all, inr last)
 
-walk_parts : (words rest : List (List ℕ)) (steps : List (ℕ × ℕ)) → walk_left words ≡ Some (steps, rest) → IsWalk words steps rest
-walk_parts words rest steps e = go (is_next (codes "-") words) refl e
+walk_parts : (words left : List (List ℕ)) (steps : List (ℕ × ℕ)) → walk_left words ≡ Some (steps, left) → IsWalk words steps left
+walk_parts words left steps e = go (is_next (codes "-") words) refl e
   where
-    go : (test : Bool) → is_next (codes "-") words ≡ test → cond test (Some ([], drop 1 words)) (some_steps (steps_left words)) ≡ Some (steps, rest) → IsWalk words steps rest
+    go : (test : Bool) → is_next (codes "-") words ≡ test → cond test (Some ([], drop 1 words)) (some_steps (steps_left words)) ≡ Some (steps, left) → IsWalk words steps left
     go true is e =
         let same = some_same e in
         let none : [] ≡ steps = ap (λ (x : List (ℕ × ℕ) × List (List ℕ)). x.0) same in
-        let left : drop 1 words ≡ rest = ap (λ (x : List (ℕ × ℕ) × List (List ℕ)). x.1) same in
-        rw (← none, ← left) (next_is (codes "-") words is, tt, inl refl)
-    go false is e = some_steps_are words rest (steps_left words) steps (steps_are words) e
+        let later : drop 1 words ≡ left = ap (λ (x : List (ℕ × ℕ) × List (List ℕ)). x.1) same in
+        rw (← none, ← later) (next_is (codes "-") words is, tt, inl refl)
+    go false is e = some_steps_are words left (steps_left words) steps (steps_are words) e
+
+-- ---- items until their end
+
+module _ {X : Type 0} (one : List (List ℕ) → Option (X × List (List ℕ))) (stops : List (List ℕ) → Bool) (text : X → List ℕ) (Is : X → Type 0) where
+  -- what items until their end are
+  record AreUntil (most : ℕ) (words left : List (List ℕ)) (xs : List X) : Type 0 where
+    last : List (List ℕ)
+    parts : words ≡ map text xs ++ last
+    ends : stops last ≡ true
+    after : left ≡ drop 1 last
+    some : 1 ≤ length xs
+    few : length xs ≤ most
+    all : AllByRecursion Is xs
+
+  one_until : (most : ℕ) (words left after : List (List ℕ)) (x : X) (xs : List X) → words ≡ text x ∷ left → Is x → stops left ≡ true → x ∷ [] ≡ xs → drop 1 left ≡ after → AreUntil (suc most) words after xs
+  one_until most words left after x xs is good ends same later = rw (← same) (record { last = left; parts = is; ends = ends; after = sym later; some = omega arith; few = omega arith; all = (good, tt) })
+
+  more_until : (most : ℕ) (words next left after : List (List ℕ)) (x : X) (xs ys : List X) → words ≡ text x ∷ next → Is x → AreUntil most next left xs → x ∷ xs ≡ ys → left ≡ after → AreUntil (suc most) words after ys
+  more_until most words next left after x xs ys is good others same later =
+      rw (← same, ← later) (record { last = others.last; parts = is ∙ ap (λ (ws : List (List ℕ)). text x ∷ ws) others.parts; ends = others.ends; after = others.after; some = omega arith; few = omega (arith, others.few); all = (good, others.all) })
+
+  until_parts : ((words left : List (List ℕ)) (x : X) → one words ≡ Some (x, left) → (words ≡ text x ∷ left) × Is x) → (most : ℕ) (words left : List (List ℕ)) (xs : List X) → until_left one stops most words ≡ Some (xs, left) → AreUntil most words left xs
+  unfolding until_left
+  until_parts parts zero words left xs e = absurd cc
+  until_parts parts (suc most) words left xs e = first (one words) refl e (until_parts parts most)
+    where
+      Others : Type 0
+      Others = (words left : List (List ℕ)) (xs : List X) → until_left one stops most words ≡ Some (xs, left) → AreUntil most words left xs
+
+      begins : (x : X) (next : List (List ℕ)) → one words ≡ Some (x, next) → (test : Bool) → stops next ≡ test → cond {A = Option (List X × List (List ℕ))} test (Some (x ∷ [], drop 1 next)) (until_left one stops most next >>= λ y. Some (x ∷ y.0, y.1)) ≡ Some (xs, left) → Others → AreUntil (suc most) words left xs
+      begins x next is true ends e others =
+          let p = parts words next x is in
+          let same = some_same e in
+          one_until most words next left x xs p.0 p.1 ends (ap (λ (y : List X × List (List ℕ)). y.0) same) (ap (λ (y : List X × List (List ℕ)). y.1) same)
+      begins x next is false ends e others =
+          let p = parts words next x is in
+          let q = bind_parts (until_left one stops most next) (λ y. Some (x ∷ y.0, y.1)) (xs, left) e in
+          let same = some_same q.2 in
+          more_until most words next q.0.1 left x q.0.0 xs p.0 p.1 (others next q.0.1 q.0.0 q.1) (ap (λ (y : List X × List (List ℕ)). y.0) same) (ap (λ (y : List X × List (List ℕ)). y.1) same)
+
+      after_one : Option (X × List (List ℕ)) → Option (List X × List (List ℕ))
+      after_one found = found >>= λ x. cond {A = Option (List X × List (List ℕ))} (stops x.1) (Some (x.0 ∷ [], drop 1 x.1)) (until_left one stops most x.1 >>= λ y. Some (x.0 ∷ y.0, y.1))
+
+      first : (found : Option (X × List (List ℕ))) → one words ≡ found → after_one found ≡ Some (xs, left) → Others → AreUntil (suc most) words left xs
+      first None is e others = absurd cc
+      first (Some x) is e others = begins x.0 x.1 is (stops x.1) refl e others
+
+  until_of : ((x : X) (left : List (List ℕ)) → Is x → one (text x ∷ left) ≡ Some (x, left)) → ((x : X) (left : List (List ℕ)) → Is x → stops (text x ∷ left) ≡ false) → (most : ℕ) (xs : List X) (last : List (List ℕ)) → 1 ≤ length xs → length xs ≤ most → AllByRecursion Is xs → stops last ≡ true
+      → until_left one stops most (map text xs ++ last) ≡ Some (xs, drop 1 last)
+  unfolding until_left
+  until_of reads goes zero [] last some few all ends = absurd (omega arith)
+  until_of reads goes zero (x ∷ xs) last some few all ends = absurd (omega arith)
+  until_of reads goes (suc most) [] last some few all ends = absurd (omega arith)
+  until_of reads goes (suc most) (x ∷ []) last some few all ends = rw (reads x last all.0, ends) refl
+  until_of reads goes (suc most) (x ∷ y ∷ xs) last some few all ends =
+      rw (reads x (text y ∷ (map text xs ++ last)) all.0, goes y (map text xs ++ last) all.1.0, until_of reads goes most (y ∷ xs) last (omega arith) (omega arith) all.1 ends) refl
+
+-- ---- signed numbers, and numbers to the end of the line
+
+if_ok_parts : (r : Result ℤ NumberFault) (n : ℤ) → if_ok r ≡ Some n → r ≡ Ok n
+if_ok_parts (Ok m) n e = ap (λ k. Ok k) (some_same e)
+if_ok_parts (Err fault) n e = absurd cc
+
+signed_parts : (size : ℕ) → size < 2 ^ 124 → (words left : List (List ℕ)) (n : ℤ) → signed_left size words ≡ Some (n, left) → (words ≡ signed_decimal n ∷ left) × (unsigned_abs n ≤ size)
+signed_parts size small [] left n e = absurd cc
+signed_parts size small (w ∷ words) left n e =
+    let p = bind_parts (if_ok (signed_of w size)) (λ k. Some (k, words)) (n, left) e in
+    let same = some_same p.2 in
+    let is : p.0 ≡ n = ap (λ (x : ℤ × List (List ℕ)). x.0) same in
+    let later : words ≡ left = ap (λ (x : ℤ × List (List ℕ)). x.1) same in
+    let d = signed_decimal_from_signed w size n (omega arith) (if_ok_parts (signed_of w size) n (p.1 ∙ ap (λ k. Some k) is)) in
+    (rw (d.0, later) refl, d.1)
+
+signed_of_text : (size : ℕ) → size < 2 ^ 124 → (n : ℤ) (left : List (List ℕ)) → unsigned_abs n ≤ size → signed_left size (signed_decimal n ∷ left) ≡ Some (n, left)
+signed_of_text size small n left h = rw (signed_from_signed_decimal (signed_decimal n) size n (omega arith) (refl, h)) refl
+
+-- a word that begins with a letter is no signed number
+not_signed : (size byte : ℕ) (others : List ℕ) → size < 2 ^ 124 → 57 < byte → (n : ℤ) (left : List (List ℕ)) → unsigned_abs n ≤ size → is_next (byte ∷ others) (signed_decimal n ∷ left) ≡ false
+not_signed size byte others small letter (pos n) left h = differs (decimal n) (decimal_is_digits n (omega arith)) (decimal_some n (omega arith))
+  where
+    differs : (ds : List ℕ) → AreDigits ds → 0 < length ds → bytes_eq ds (byte ∷ others) ≡ false
+    differs [] d some = absurd (omega arith)
+    differs (x ∷ ds) d some = and_left (eqb x byte) (bytes_eq ds others) (digit_is byte x (inl letter) (both (is_ascii_digit x) (list_all is_ascii_digit ds) d).0)
+not_signed size byte others small letter (negsuc n) left h = and_left (eqb 45 byte) (bytes_eq (decimal (suc n)) others) (grind (arith, nat_tests))
+
+-- the same of a number
+pub not_number : (high byte : ℕ) (others : List ℕ) (n : ℕ) (left : List (List ℕ)) → high < 2 ^ 64 → 57 < byte → n ≤ high → is_next (byte ∷ others) (decimal n ∷ left) ≡ false
+not_number high byte others n left small letter h = not_signed high byte others (omega arith) letter (pos n) left h
+
+pub at_end : (last : List (List ℕ)) → is_last last ≡ true → last ≡ []
+at_end [] e = refl
+at_end (w ∷ last) e = absurd cc
 
 -- ---- a line
 
--- the limits of its numbers fit in 64 bits
+abbrev pub BeginsWithLetter : List ℕ → Type 0
+BeginsWithLetter [] = ⊥
+BeginsWithLetter (byte ∷ others) = 57 < byte
+
+-- the limits of its numbers fit in their widths
 abbrev pub Fits : {A : Type 0} → Wording A → Type 0
 Fits (done x) = Unit {0}
 Fits barred = Unit {0}
 Fits (word w next) = Fits next
 Fits (number low high next) = (high < 2 ^ 64) × ((n : ℕ) → Fits (next n))
 Fits (numbers count high next) = (high < 2 ^ 64) × ((ns : List ℕ) → Fits (next ns))
+Fits (rest most high next) = (high < 2 ^ 64) × ((ns : List ℕ) → Fits (next ns))
+Fits (signeds most size w next) = (size < 2 ^ 124) × BeginsWithLetter w × ((ns : List ℤ) → Fits (next ns))
 Fits (walk next) = (steps : List (ℕ × ℕ)) → Fits (next steps)
 Fits (fork w first second) = Fits first × Fits second
 
@@ -231,7 +342,7 @@ spells_from_read (done x) [] y f e = (refl, some_same e)
 spells_from_read (done x) (w ∷ words) y f e = absurd cc
 spells_from_read barred words y f e = absurd cc
 spells_from_read (word w next) words y f e =
-    let p = bind_parts (word_left w words) (λ rest. read next rest) y e in
+    let p = bind_parts (word_left w words) (λ left. read next left) y e in
     (p.0, word_parts w words p.0 p.1, spells_from_read next p.0 y f p.2)
 spells_from_read (number low high next) words y f e =
     let p = bind_parts (number_left low high words) (λ x. read (next x.0) x.1) y e in
@@ -241,6 +352,21 @@ spells_from_read (numbers count high next) words y f e =
     let p = bind_parts (numbers_left count high words) (λ x. read (next x.0) x.1) y e in
     let q = numbers_parts count high p.0.0 words p.0.1 f.0 p.1 in
     (p.0.0, p.0.1, q.0, q.1, q.2, spells_from_read (next p.0.0) p.0.1 y (f.1 p.0.0) p.2)
+spells_from_read (rest most high next) words y f e =
+    let p = bind_parts (rest_left most high words) (λ x. read (next x.0) x.1) y e in
+    let u = until_parts (number_left 0 high) is_last decimal (λ n. n ≤ high) (λ ws left n e. (let q = number_parts 0 high n ws left f.0 e in (q.0, q.2))) most words p.0.1 p.0.0 p.1 in
+    let none = at_end u.last u.ends in (
+      p.0.0,
+      u.parts ∙ ap (λ (ws : List (List ℕ)). map decimal p.0.0 ++ ws) none ∙ append-nil (map decimal p.0.0),
+      u.some,
+      u.few,
+      u.all,
+      spells_from_read (next p.0.0) [] y (f.1 p.0.0) (sym (ap (read (next p.0.0)) (u.after ∙ ap (drop 1) none)) ∙ p.2),
+    )
+spells_from_read (signeds most size w next) words y f e =
+    let p = bind_parts (signeds_left most size w words) (λ x. read (next x.0) x.1) y e in
+    let u = until_parts (signed_left size) (is_next w) signed_decimal (λ n. unsigned_abs n ≤ size) (signed_parts size f.0) most words p.0.1 p.0.0 p.1 in
+    (p.0.0, p.0.1, u.parts ∙ ap (λ (ws : List (List ℕ)). map signed_decimal p.0.0 ++ ws) (next_is w u.last u.ends ∙ ap (λ (ws : List (List ℕ)). w ∷ ws) (sym u.after)), u.some, u.few, u.all, spells_from_read (next p.0.0) p.0.1 y (f.2 p.0.0) p.2)
 spells_from_read (walk next) words y f e =
     let p = bind_parts (walk_left words) (λ x. read (next x.0) x.1) y e in
     let q = walk_parts words p.0.1 p.0.0 p.1 in
@@ -251,14 +377,24 @@ spells_from_read {A} (fork w first second) words y f e = go (is_next w words) re
     go true is e one other = inl (drop 1 words, next_is w words is, one e)
     go false is e one other = inr (is, other e)
 
+number_of_word : (high n : ℕ) (left : List (List ℕ)) → high < 2 ^ 64 → n ≤ high → number_left 0 high (decimal n ∷ left) ≡ Some (n, left)
+number_of_word high n left small most = rw (number_of_decimal 0 high n small (omega arith) most) refl
+
 pub read_from_spells : {A : Type 0} (g : Wording A) (words : List (List ℕ)) (y : A) → Fits g → Spells g words y → read g words ≡ Some y
 read_from_spells (done x) words y f h = rw (h.0, h.1) refl
 read_from_spells barred words y f h = absurd h
-read_from_spells (word w next) words y f (rest, is, h) = rw (is, itself w) (read_from_spells next rest y f h)
-read_from_spells (number low high next) words y f (n, rest, is, least, most, h) = rw (is, number_of_decimal low high n f.0 least most) (read_from_spells (next n) rest y (f.1 n) h)
-read_from_spells (numbers count high next) words y f (ns, rest, is, many, below, h) = rw (is, numbers_of count high ns rest f.0 many below) (read_from_spells (next ns) rest y (f.1 ns) h)
-read_from_spells (walk next) words y f (steps, rest, is, all, ends, h) = rw (is, walk_of steps rest all ends) (read_from_spells (next steps) rest y (f steps) h)
-read_from_spells (fork w first second) words y f (inl (rest, is, h)) = rw (is, itself w) (read_from_spells first rest y f.0 h)
+read_from_spells (word w next) words y f (left, is, h) = rw (is, itself w) (read_from_spells next left y f h)
+read_from_spells (number low high next) words y f (n, left, is, least, most, h) = rw (is, number_of_decimal low high n f.0 least most) (read_from_spells (next n) left y (f.1 n) h)
+read_from_spells (numbers count high next) words y f (ns, left, is, many, below, h) = rw (is, numbers_of count high ns left f.0 many below) (read_from_spells (next ns) left y (f.1 ns) h)
+read_from_spells (rest most high next) words y f (ns, is, some, few, below, h) =
+    let whole : rest_left most high words ≡ Some (ns, []) = rw is (rw (← append-nil (map decimal ns)) (until_of (number_left 0 high) is_last decimal (λ n. n ≤ high) (λ n left k. number_of_word high n left f.0 k) (λ n left k. refl) most ns [] some few below refl)) in
+    rw whole (read_from_spells (next ns) [] y (f.1 ns) h)
+read_from_spells (signeds most size [] next) words y f h = absurd f.1
+read_from_spells (signeds most size (byte ∷ w) next) words y f (ns, others, is, some, few, below, h) =
+    let whole : signeds_left most size (byte ∷ w) words ≡ Some (ns, others) = rw is (until_of (signed_left size) (is_next (byte ∷ w)) signed_decimal (λ n. unsigned_abs n ≤ size) (signed_of_text size f.0) (not_signed size byte w f.0 f.1) most ns ((byte ∷ w) ∷ others) some few below (itself (byte ∷ w))) in
+    rw whole (read_from_spells (next ns) others y (f.2 ns) h)
+read_from_spells (walk next) words y f (steps, left, is, all, ends, h) = rw (is, walk_of steps left all ends) (read_from_spells (next steps) left y (f steps) h)
+read_from_spells (fork w first second) words y f (inl (left, is, h)) = rw (is, itself w) (read_from_spells first left y f.0 h)
 read_from_spells (fork w first second) words y f (inr (other, h)) = rw other (read_from_spells second words y f.1 h)
 
 -- ---- words of a line: no space and no LF stands in them
@@ -275,6 +411,15 @@ words_append (x ∷ xs) ys h k = (h.0, words_append xs ys h.1 k)
 
 pub word_decimal : (n : ℕ) → n < 10 ^ 64 → IsWord (decimal n)
 word_decimal n fits = (decimal-lacks 32 n (lit< tt) fits, decimal-lacks 10 n (lit< tt) fits)
+
+-- the same of a signed number
+pub word_signed : (n : ℤ) → unsigned_abs n < 10 ^ 64 → IsWord (signed_decimal n)
+word_signed (pos n) fits = word_decimal n fits
+word_signed (negsuc n) fits = word_decimal (suc n) fits
+
+pub words_signed : (size : ℕ) (ns : List ℤ) → size < 2 ^ 124 → AllByRecursion (λ n. unsigned_abs n ≤ size) ns → AreWords (map signed_decimal ns)
+words_signed size [] small h = tt
+words_signed size (n ∷ ns) small h = (word_signed n (omega (arith, h.0)), words_signed size ns small h.1)
 
 pub words_numbers : (high : ℕ) (ns : List ℕ) → high < 2 ^ 64 → AllByRecursion (λ n. n ≤ high) ns → AreWords (map decimal ns)
 words_numbers high [] small h = tt

@@ -1,9 +1,9 @@
 -- What stands next in a line, and what is left after it.
-use Rattle.std.specs.Prelude.{◌≡◌, ℕ, zero, suc, nat_le, Bool, false, if◌then◌else◌, List, [], ◌∷◌, drop, Option, Some, None, Result, Ok, Err, codes}
+use Rattle.std.specs.Prelude.{◌≡◌, ℕ, zero, suc, nat_le, Bool, true, false, if◌then◌else◌, List, [], ◌∷◌, drop, Option, Some, None, Result, Ok, Err, codes, ℤ}
 use Rattle.std.specs.Str.{bytes_eq}
 use Rattle.ct_vectors.specs.declared.limits.TheConstants.{GRADE_LIMIT, MOVE_LIMIT}
 use Rattle.ct_text.specs.declared.number.NumberFault.{NumberFault}
-use Rattle.ct_text.specs.Numbers.{natural_of}
+use Rattle.ct_text.specs.Numbers.{natural_of, signed_of}
 use Rattle.ct_text.specs.Pieces.{split}
 use Rattle.ct_lines.specs.declared.stop.LineStop.{LineStop}
 use Rattle.ct_lines.specs.declared.stop.LineStop.TheVariants.{Refused, Memory}
@@ -80,6 +80,33 @@ some_steps (step ∷ steps, words) = Some (step ∷ steps, words)
 
 abbrev pub walk_left : List (List ℕ) → Option (List (ℕ × ℕ) × List (List ℕ))
 walk_left words = if is_next (codes "-") words then Some ([], drop 1 words) else some_steps (steps_left words)
+
+-- a signed number of at most this size
+abbrev pub if_ok : Result ℤ NumberFault → Option ℤ
+if_ok (Ok n) = Some n
+if_ok (Err fault) = None
+
+abbrev pub signed_left : ℕ → List (List ℕ) → Option (ℤ × List (List ℕ))
+signed_left size [] = None
+signed_left size (word ∷ words) = if_ok (signed_of word size) >>= λ n. Some (n, words)
+
+-- one item, and others up to a number of items, until the words that are left begin with what ends them
+unfoldable pub until_left : {X : Type 0} → (List (List ℕ) → Option (X × List (List ℕ))) → (List (List ℕ) → Bool) → ℕ → List (List ℕ) → Option (List X × List (List ℕ))
+until_left one stops zero words = None
+until_left one stops (suc most) words =
+    one words >>= λ x. if stops x.1 then Some (x.0 ∷ [], drop 1 x.1) else (until_left one stops most x.1 >>= λ y. Some (x.0 ∷ y.0, y.1))
+
+-- one signed number or several, and the word that ends them
+abbrev pub signeds_left : ℕ → ℕ → List ℕ → List (List ℕ) → Option (List ℤ × List (List ℕ))
+signeds_left most size word words = until_left (signed_left size) (is_next word) most words
+
+abbrev pub is_last : List (List ℕ) → Bool
+is_last [] = true
+is_last (word ∷ words) = false
+
+-- one number or several, up to the end of the line
+abbrev pub rest_left : ℕ → ℕ → List (List ℕ) → Option (List ℕ × List (List ℕ))
+rest_left most high words = until_left (number_left 0 high) is_last most words
 
 -- nothing, where the line ends here
 abbrev pub end_left : List (List ℕ) → Option (List (List ℕ))

@@ -1,9 +1,11 @@
 -- Grammars of a line: what may stand next in it, and what follows.
 use Rattle.std.specs.Prelude.{◌≡◌, ℕ, ◌+◌, ◌≤◌, ◌==◌, ◌&&◌, Bool, false, if◌then◌else◌, List, [], ◌∷◌, ◌++◌, map, drop, length, decimal, Option, Some, None, Result, Ok, Err, ◌⊎◌}
+use Rattle.std.specs.Prelude.{ℤ, unsigned_abs}
+use Rattle.std.specs.Fmt.{signed_decimal}
 use Rattle.std.specs.List.{AllByRecursion}
 use Rattle.ct_text.specs.Pieces.{split}
 use Rattle.ct_lines.specs.Texts.{IsStep, walk_words}
-use Rattle.ct_lines.specs.Reading.{◌>>=◌, is_next, word_left, number_left, numbers_left, first_step, walk_left, end_left}
+use Rattle.ct_lines.specs.Reading.{◌>>=◌, is_next, word_left, number_left, numbers_left, first_step, walk_left, rest_left, signeds_left, end_left}
 
 -- A grammar of lines that stand for values of A.
 pub data Wording (A : Type 0) : Type 0 where
@@ -16,6 +18,10 @@ pub data Wording (A : Type 0) : Type 0 where
   number : ℕ → ℕ → (ℕ → Wording A) → Wording A
   -- so many numbers up to a limit
   numbers : ℕ → ℕ → (List ℕ → Wording A) → Wording A
+  -- one number or several, up to a number of them and a limit, to the end of the line
+  rest : ℕ → ℕ → (List ℕ → Wording A) → Wording A
+  -- one signed number or several, up to a number of them and a size, and the word that ends them
+  signeds : ℕ → ℕ → List ℕ → (List ℤ → Wording A) → Wording A
   -- a walk, as long as it goes
   walk : (List (ℕ × ℕ) → Wording A) → Wording A
   -- if this word stands next, then it and the first; else the second
@@ -30,9 +36,11 @@ f then x = f x
 abbrev pub read : {A : Type 0} → Wording A → List (List ℕ) → Option A
 read (done x) words = end_left words >>= λ _. Some x
 read barred words = None
-read (word w next) words = word_left w words >>= λ rest. read next rest
+read (word w next) words = word_left w words >>= λ left. read next left
 read (number low high next) words = number_left low high words >>= λ x. read (next x.0) x.1
 read (numbers count high next) words = numbers_left count high words >>= λ x. read (next x.0) x.1
+read (rest most high next) words = rest_left most high words >>= λ x. read (next x.0) x.1
+read (signeds most size w next) words = signeds_left most size w words >>= λ x. read (next x.0) x.1
 read (walk next) words = walk_left words >>= λ x. read (next x.0) x.1
 read (fork w first second) words = if is_next w words then read first (drop 1 words) else read second words
 
@@ -42,14 +50,18 @@ read (fork w first second) words = if is_next w words then read first (drop 1 wo
 abbrev pub Spells : {A : Type 0} → Wording A → List (List ℕ) → A → Type 0
 Spells (done x) words y = (words ≡ []) × (x ≡ y)
 Spells barred words y = ⊥
-Spells (word w next) words y = (rest : List (List ℕ)) × (words ≡ w ∷ rest) × Spells next rest y
-Spells (number low high next) words y = (n : ℕ) × (rest : List (List ℕ)) × (words ≡ decimal n ∷ rest) × (low ≤ n) × (n ≤ high) × Spells (next n) rest y
+Spells (word w next) words y = (left : List (List ℕ)) × (words ≡ w ∷ left) × Spells next left y
+Spells (number low high next) words y = (n : ℕ) × (left : List (List ℕ)) × (words ≡ decimal n ∷ left) × (low ≤ n) × (n ≤ high) × Spells (next n) left y
 Spells (numbers count high next) words y =
-    (ns : List ℕ) × (rest : List (List ℕ)) × (words ≡ map decimal ns ++ rest) × (length ns ≡ count) × AllByRecursion (λ n. n ≤ high) ns × Spells (next ns) rest y
+    (ns : List ℕ) × (left : List (List ℕ)) × (words ≡ map decimal ns ++ left) × (length ns ≡ count) × AllByRecursion (λ n. n ≤ high) ns × Spells (next ns) left y
+Spells (rest most high next) words y =
+    (ns : List ℕ) × (words ≡ map decimal ns) × (1 ≤ length ns) × (length ns ≤ most) × AllByRecursion (λ n. n ≤ high) ns × Spells (next ns) [] y
+Spells (signeds most size w next) words y =
+    (ns : List ℤ) × (others : List (List ℕ)) × (words ≡ map signed_decimal ns ++ (w ∷ others)) × (1 ≤ length ns) × (length ns ≤ most) × AllByRecursion (λ n. unsigned_abs n ≤ size) ns × Spells (next ns) others y
 Spells (walk next) words y =
-    (steps : List (ℕ × ℕ)) × (rest : List (List ℕ)) × (words ≡ walk_words steps ++ rest) × AllByRecursion IsStep steps × ((steps ≡ []) ⊎ (first_step rest ≡ None)) × Spells (next steps) rest y
+    (steps : List (ℕ × ℕ)) × (left : List (List ℕ)) × (words ≡ walk_words steps ++ left) × AllByRecursion IsStep steps × ((steps ≡ []) ⊎ (first_step left ≡ None)) × Spells (next steps) left y
 Spells (fork w first second) words y =
-    ((rest : List (List ℕ)) × (words ≡ w ∷ rest) × Spells first rest y) ⊎ ((is_next w words ≡ false) × Spells second words y)
+    ((left : List (List ℕ)) × (words ≡ w ∷ left) × Spells first left y) ⊎ ((is_next w words ≡ false) × Spells second words y)
 
 -- ---- a text, line by line: the value so far says what the next line may be
 

@@ -10,7 +10,7 @@ mod print;
 mod stop;
 mod words;
 
-pub use print::{push_number, push_numbers, push_walk};
+pub use print::{push_number, push_numbers, push_signeds, push_walk};
 pub use stop::LineStop;
 pub use words::Words;
 

@@ -1,9 +1,10 @@
 //! Words of a line as they are written: each after a space.
 
 ghost use Rattle.std.specs.Prelude.{◌≡◌, ◌++◌, ◌∷◌, [], map, decimal, OnOk};
+ghost use Rattle.std.specs.Fmt.{signed_decimal};
 ghost use Rattle.ct_lines.specs.Texts.{spaced, walk_words};
 
-use ct_text::push_natural;
+use ct_text::{push_natural, push_signed};
 use std::alloc::AllocError;
 
 /// Appends a space and the number. After an `Err` a part of it may stand at the end, here and in the calls below.
@@ -20,6 +21,17 @@ pub fn push_numbers(out: &mut Vec<u8>, numbers: &[u64]) -> Result<(), AllocError
 {
     for number in numbers {
         push_number(out, *number)?;
+    }
+    Ok(())
+}
+
+/// Appends each signed number after a space.
+pub fn push_signeds(out: &mut Vec<u8>, numbers: &[i128]) -> Result<(), AllocError>
+    ensures { OnOk result (out.new.items ≡ out.old.items ++ spaced (map signed_decimal numbers.now)) }
+{
+    for number in numbers {
+        out.push(b' ')?;
+        push_signed(out, *number)?;
     }
     Ok(())
 }

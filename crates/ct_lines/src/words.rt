@@ -1,7 +1,7 @@
 //! The reader of a line, one word ahead.
 
 use crate::stop::LineStop;
-use ct_text::{Pieces, natural};
+use ct_text::{Pieces, natural, signed_wide};
 use ct_vectors::limits::{GRADE_LIMIT, MOVE_LIMIT};
 use std::alloc::{AllocError, Global};
 use std::marker::Model;
@@ -28,9 +28,9 @@ impl<'a> Model for Words<'a> {
 }
 
 impl<'a> Words<'a> {
-    ghost use Rattle.std.specs.Prelude.{◌≡◌, ◌<◌, ◌≤◌, [], drop, All, IfOk, IfSome, vec_len, MatchOption, None, Some, if◌then◌else◌};
+    ghost use Rattle.std.specs.Prelude.{◌≡◌, ◌<◌, ◌≤◌, ◌^◌, unsigned_abs, [], drop, All, IfOk, IfSome, decimal, vec_len, MatchOption, None, Some, if◌then◌else◌};
     ghost use Rattle.ct_text.specs.Pieces.{split};
-    ghost use Rattle.ct_lines.specs.Reading.{Gives, is_next, word_left, number_left, numbers_left, first_step, steps_left, walk_left, end_left};
+    ghost use Rattle.ct_lines.specs.Reading.{Gives, is_next, word_left, number_left, numbers_left, first_step, steps_left, walk_left, signed_left, signeds_left, is_last, rest_left, end_left};
     ghost use Rattle.ct_lines.specs.Texts.{IsStep};
 
     /// The words of a line: what stands between its spaces.
@@ -96,6 +96,21 @@ impl<'a> Words<'a> {
         }
     }
 
+    /// Takes the decimal text of this number.
+    #[tactic(auto, using(crate::proofs::Spelling::numbered_word))]
+    pub fn numbered(&mut self, number: u64) -> Result<(), LineStop>
+        ensures { Gives (λ _. self.new) result (word_left (decimal number) self.old) }
+    {
+        let Some(word) = self.ahead else {
+            return Err(LineStop::Refused);
+        };
+        if natural(word, number) != Ok(number) {
+            return Err(LineStop::Refused);
+        }
+        self.advance();
+        Ok(())
+    }
+
     /// Takes so many numbers up to a limit.
     pub fn numbers(&mut self, alloc: Global, count: usize, high: u64) -> Result<Vec<u64>, LineStop>
         ensures gives { Gives (λ v. (v.items, self.new)) result (numbers_left count high self.old) }
@@ -108,6 +123,71 @@ impl<'a> Words<'a> {
             found.push(n)?;
         }
         Ok(found)
+    }
+
+    /// Takes a signed number of at most this size.
+    pub fn signed(&mut self, size: u128) -> Result<i128, LineStop>
+        requires { size < 2 ^ 124 }
+        ensures gives { Gives (λ n. (n, self.new)) result (signed_left size self.old) }
+        ensures within { IfOk result (λ n. unsigned_abs n ≤ size) }
+    {
+        let Some(word) = self.ahead else {
+            return Err(LineStop::Refused);
+        };
+        match signed_wide(word, size) {
+            Err(_) => Err(LineStop::Refused),
+            Ok(n) => {
+                self.advance();
+                Ok(n)
+            }
+        }
+    }
+
+    /// Takes one signed number or several, up to a number of them and a size, and the word that ends them.
+    pub fn signeds(
+        &mut self,
+        alloc: Global,
+        most: usize,
+        size: u128,
+        word: &[u8],
+    ) -> Result<Vec<i128>, LineStop>
+        requires { size < 2 ^ 124 }
+        ensures gives { Gives (λ v. (v.items, self.new)) result (signeds_left most size word.now self.old) }
+        ensures within { IfOk result (λ v. All (λ n. unsigned_abs n ≤ size) v.items) }
+        ensures count { IfOk result (λ v. (1 ≤ vec_len v) × (vec_len v ≤ most)) }
+    {
+        let mut found = Vec::new(alloc);
+        for _ in 0..most {
+            let n = self.signed(size)?;
+            found.push(n)?;
+            if self.goes(word) {
+                return Ok(found);
+            }
+        }
+        Err(LineStop::Refused)
+    }
+
+    fn is_last(&self) -> bool
+        ensures { result ≡ is_last self.now }
+    {
+        self.ahead.is_none()
+    }
+
+    /// Takes one number or several, up to a number of them and a limit, and with them the line ends.
+    pub fn rest(&mut self, alloc: Global, most: usize, high: u64) -> Result<Vec<u64>, LineStop>
+        ensures gives { Gives (λ v. (v.items, self.new)) result (rest_left most high self.old) }
+        ensures within { IfOk result (λ v. All (λ n. n ≤ high) v.items) }
+        ensures count { IfOk result (λ v. (1 ≤ vec_len v) × (vec_len v ≤ most)) }
+    {
+        let mut found = Vec::new(alloc);
+        for _ in 0..most {
+            let n = self.number(0, high)?;
+            found.push(n)?;
+            if self.is_last() {
+                return Ok(found);
+            }
+        }
+        Err(LineStop::Refused)
     }
 
     // Takes a step if one stands next.

@@ -1,0 +1,2 @@
+pub mod ReportMachine
+pub mod Written

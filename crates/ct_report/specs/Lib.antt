@@ -1,0 +1,5 @@
+pub mod ReportText
+pub mod Limits
+pub mod Grammar
+pub mod Stops
+pub mod Laws

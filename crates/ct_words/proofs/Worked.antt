@@ -1,0 +1,54 @@
+-- The rules on worked words, by computation.
+use Rattle.std.proofs.Common.{◌≡◌, [], ◌∷◌, Option, Some, None, refl, codes}
+use Rattle.ct_text.specs.Numbers.{natural_of}
+use Rattle.ct_words.specs.Table.{commands}
+use Rattle.ct_words.specs.Parts.{parts_of}
+use Rattle.ct_words.specs.Said.{WordsSaid, said_of, places_of, text, number}
+use Rattle.ct_words.specs.declared.table.CommandName.TheVariants.{Answer, Certify}
+
+abbrev two_moves : Option WordsSaid
+two_moves = Some (record { command = Answer; places = text (codes "K") ∷ text (codes "S") ∷ []; given = record { name = codes "moves"; value = Some 2 } ∷ [] })
+
+value_behind_the_sign : said_of commands (codes "answer" ∷ codes "--moves=2" ∷ codes "--" ∷ codes "K" ∷ codes "S" ∷ []) ≡ two_moves
+unfolding parts_of places_of natural_of
+value_behind_the_sign = refl
+
+value_in_the_next_word : said_of commands (codes "answer" ∷ codes "K" ∷ codes "S" ∷ codes "--moves" ∷ codes "2" ∷ []) ≡ two_moves
+unfolding parts_of places_of natural_of
+value_in_the_next_word = refl
+
+names_with_a_dash : said_of commands (codes "certify" ∷ codes "--" ∷ codes "-w" ∷ codes "12" ∷ []) ≡ Some (record { command = Certify; places = text (codes "-w") ∷ number 12 ∷ []; given = [] })
+unfolding parts_of places_of natural_of
+names_with_a_dash = refl
+
+flag_twice : said_of commands (codes "answer" ∷ codes "K" ∷ codes "S" ∷ codes "--walks" ∷ codes "--walks" ∷ []) ≡ None
+unfolding parts_of places_of natural_of
+flag_twice = refl
+
+no_value : said_of commands (codes "answer" ∷ codes "--moves" ∷ codes "--" ∷ codes "K" ∷ codes "S" ∷ []) ≡ None
+unfolding parts_of places_of natural_of
+no_value = refl
+
+value_of_a_flag : said_of commands (codes "answer" ∷ codes "K" ∷ codes "S" ∷ codes "--walks=" ∷ []) ≡ None
+unfolding parts_of places_of natural_of
+value_of_a_flag = refl
+
+another_dash : said_of commands (codes "answer" ∷ codes "K" ∷ codes "S" ∷ codes "-w" ∷ []) ≡ None
+unfolding parts_of places_of natural_of
+another_dash = refl
+
+too_few : said_of commands (codes "check" ∷ codes "K" ∷ []) ≡ None
+unfolding parts_of places_of natural_of
+too_few = refl
+
+another_commands_option : said_of commands (codes "check" ∷ codes "K" ∷ codes "L" ∷ codes "--moves=2" ∷ []) ≡ None
+unfolding parts_of places_of natural_of
+another_commands_option = refl
+
+leading_zero : said_of commands (codes "answer" ∷ codes "K" ∷ codes "S" ∷ codes "--moves=02" ∷ []) ≡ None
+unfolding parts_of places_of natural_of
+leading_zero = refl
+
+over_the_limit : said_of commands (codes "certify" ∷ codes "K" ∷ codes "16000000000001" ∷ []) ≡ None
+unfolding parts_of places_of natural_of
+over_the_limit = refl

@@ -1,0 +1,8 @@
+use Rattle.std.proofs.Common.{option_map, ap, ◌∙◌}
+use Rattle.std.specs.Str.{bytes_eq}
+use Rattle.ct_words.specs.Table.{option_seen}
+use Rattle.ct_words.proofs.Loops.{find_seen}
+use Rattle.ct_words.proofs.role.row_named.Goals as goal
+
+pub returns : goal.returns
+returns c = ap (option_map option_seen) c.first_named.ensures ∙ find_seen option_seen (λ row. bytes_eq row.name c.args.name.now) c.args.rows.now

@@ -1,0 +1,4 @@
+pub mod Table
+pub mod Role
+pub mod Parts
+pub mod Said

@@ -1,0 +1,94 @@
+-- What one word is among the words of a command.
+use Rattle.std.specs.Prelude.{ℕ, ◌==◌, ◌||◌, nat_lt, not, if◌then◌else◌, List, [], ◌∷◌, take, drop, length, find, is_some, Option, Some, None, Result, Ok, Err}
+use Rattle.std.specs.Str.{bytes_eq}
+use Rattle.std.specs.List.{prefix_len}
+use Rattle.ct_text.specs.declared.number.NumberFault.{NumberFault}
+use Rattle.ct_text.specs.Numbers.{natural_of}
+use Rattle.ct_words.specs.Table.{WordOption}
+use Rattle.ct_words.specs.declared.table.Bounds.{Bounds}
+use Rattle.ct_words.specs.declared.role.Given.{Given}
+use Rattle.ct_words.specs.declared.role.Asked.{Asked}
+use Rattle.ct_words.specs.declared.role.Role.{Role}
+use Rattle.ct_words.specs.declared.role.Role.TheVariants.{Ends, Positional, Says, Opens}
+
+infixl 10 ◌>>=◌
+abbrev pub ◌>>=◌ : {X Y : Type 0} → Option X → (X → Option Y) → Option Y
+None >>= f = None
+(Some x) >>= f = f x
+
+-- an option that was given, with its value where it takes one
+pub record WordGiven : Type 0 where
+  pub name : List ℕ
+  pub value : Option ℕ
+
+-- an option whose value is still to come
+pub record WordAsked : Type 0 where
+  pub name : List ℕ
+  pub bounds : Bounds
+
+-- what a word is: the end of all options, a positional word, an option or the value of the one before, or an option
+-- whose value is the next word
+pub data WordRole : Type 0 where
+  ends : WordRole
+  positional : WordRole
+  says : WordGiven → WordRole
+  opens : WordAsked → WordRole
+
+abbrev pub given_seen : Given → WordGiven
+given_seen given = record { name = given.name.now; value = given.value }
+
+abbrev pub asked_seen : Asked → WordAsked
+asked_seen asked = record { name = asked.name.now; bounds = asked.bounds }
+
+abbrev pub role_seen : Role → WordRole
+role_seen Ends = ends
+role_seen Positional = positional
+role_seen (Says given) = says (given_seen given)
+role_seen (Opens asked) = opens (asked_seen asked)
+
+abbrev pub at_least : ℕ → Result ℕ NumberFault → Option ℕ
+at_least low (Ok n) = if nat_lt n low then None else Some n
+at_least low (Err fault) = None
+
+-- the number that a word spells, within the bounds
+abbrev pub number_in : Bounds → List ℕ → Option ℕ
+number_in bounds word = at_least bounds.low (natural_of word bounds.high)
+
+abbrev pub number_said : WordAsked → List ℕ → Option WordRole
+number_said asked word = number_in asked.bounds word >>= λ n. Some (says (record { name = asked.name; value = Some n }))
+
+-- ---- an option, of which the two dashes are left out
+
+-- how many bytes stand before the first '='
+abbrev pub name_len : List ℕ → ℕ
+name_len named = prefix_len (λ byte. not (byte == 61)) named
+
+-- A flag stands alone. Another option has its value behind '=', or it is the next word.
+abbrev pub said_with : List ℕ → Option Bounds → List ℕ → Option WordRole
+said_with name None [] = Some (says (record { name = name; value = None }))
+said_with name None (sign ∷ value) = None
+said_with name (Some bounds) [] = Some (opens (record { name = name; bounds = bounds }))
+said_with name (Some bounds) (sign ∷ value) = number_said (record { name = name; bounds = bounds }) value
+
+abbrev pub option_of : List WordOption → List ℕ → Option WordRole
+option_of options named =
+    find (λ row. bytes_eq row.name (take (name_len named) named)) options >>= λ row. said_with row.name row.bounds (drop (name_len named) named)
+
+-- ---- any word
+
+-- a word that is no option: the value that is waited for, or positional
+abbrev pub plain_of : Option WordAsked → List ℕ → Option WordRole
+plain_of None word = Some positional
+plain_of (Some asked) word = number_said asked word
+
+-- A word with two dashes in front is an option, and '--' alone ends the options; neither is a value. One dash in front
+-- of another byte is no word of a command.
+abbrev pub dashed_of : List WordOption → Option WordAsked → ℕ → List ℕ → Option WordRole
+dashed_of options waiting second named =
+    if not (second == 45) || is_some waiting then None else if length named == 0 then Some ends else option_of options named
+
+abbrev pub role_of : List WordOption → Option WordAsked → List ℕ → Option WordRole
+role_of options waiting [] = plain_of waiting []
+role_of options waiting (first ∷ []) = plain_of waiting (first ∷ [])
+role_of options waiting (first ∷ second ∷ named) =
+    if first == 45 then dashed_of options waiting second named else plain_of waiting (first ∷ second ∷ named)

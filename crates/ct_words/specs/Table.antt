@@ -1,0 +1,47 @@
+-- The table of commands.
+use Rattle.std.specs.Prelude.{ℕ, List, [], ◌∷◌, map, Option, Some, None, codes}
+use Rattle.ct_vectors.specs.declared.limits.TheConstants.{GRADE_LIMIT, MOVE_LIMIT}
+use Rattle.ct_words.specs.declared.table.Bounds.{Bounds}
+use Rattle.ct_words.specs.declared.table.CommandName.{CommandName}
+use Rattle.ct_words.specs.declared.table.CommandName.TheVariants.{Answer, Certify, Check}
+use Rattle.ct_words.specs.declared.table.OptionRow.{OptionRow}
+use Rattle.ct_words.specs.declared.table.CommandRow.{CommandRow}
+
+-- an option, without its dashes; a flag has no bounds, since it takes no value
+pub record WordOption : Type 0 where
+  pub name : List ℕ
+  pub bounds : Option Bounds
+
+-- a command: what each positional word is in turn, a number within bounds or a text, and its options
+pub record WordCommand : Type 0 where
+  pub command : CommandName
+  pub name : List ℕ
+  pub places : List (Option Bounds)
+  pub options : List WordOption
+
+abbrev pub option_seen : OptionRow → WordOption
+option_seen row = record { name = row.name.now; bounds = row.bounds }
+
+abbrev pub command_seen : CommandRow → WordCommand
+command_seen row = record { command = row.command; name = row.name.now; places = row.places.now; options = map option_seen row.options.now }
+
+abbrev pub flag : List ℕ → WordOption
+flag name = record { name = name; bounds = None }
+
+abbrev pub from_to : ℕ → ℕ → Option Bounds
+from_to low high = Some (record { low = low; high = high })
+
+-- --moves N
+abbrev pub moves : WordOption
+moves = record { name = codes "moves"; bounds = from_to 1 MOVE_LIMIT }
+
+abbrev pub any_text : Option Bounds
+any_text = None
+
+-- answer INSTANCE SESSIONS, certify INSTANCE GRADE, check INSTANCE LEDGER
+abbrev pub commands : List WordCommand
+commands =
+    record { command = Answer; name = codes "answer"; places = any_text ∷ any_text ∷ []; options = flag (codes "walks") ∷ flag (codes "levels") ∷ moves ∷ [] }
+    ∷ record { command = Certify; name = codes "certify"; places = any_text ∷ from_to 0 GRADE_LIMIT ∷ []; options = moves ∷ [] }
+    ∷ record { command = Check; name = codes "check"; places = any_text ∷ any_text ∷ []; options = [] }
+    ∷ []

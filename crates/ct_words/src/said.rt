@@ -1,0 +1,167 @@
+//! Which command the words are, and what it is told.
+ghost use Rattle.std.specs.Prelude.{◌≡◌, ◌==◌, ◌∷◌, length, option_map, map, find, string_bytes, IfOk};
+ghost use Rattle.std.specs.List.{list_any};
+ghost use Rattle.std.specs.Str.{bytes_eq};
+ghost use Rattle.ct_words.specs.Table.{command_seen, commands};
+ghost use Rattle.ct_words.specs.Parts.{parts_seen};
+ghost use Rattle.ct_words.specs.Said.{place_of, place_seen, places_of, named_of, said_of, seen, told_of};
+
+use crate::parts::{Parts, is_named, no_option_twice, parts_in, value_named};
+use crate::role::{Given, number_of};
+use crate::table::{Bounds, COMMANDS, CommandName, CommandRow};
+use std::alloc::{AllocError, Global};
+
+/// A positional word.
+#[derive(Clone, Copy, Debug)]
+pub enum Place<'a> {
+    /// As it was said.
+    Text(&'a str),
+    /// A number within the bounds of its place.
+    Number(u64),
+}
+
+/// A command with its positional words, in their order, and its options, in the order in which they were given.
+#[derive(Drop)]
+pub struct Said<'a> {
+    pub command: CommandName,
+    pub places: Vec<Place<'a>>,
+    pub given: Vec<Given>,
+}
+
+impl<'a> Said<'a> {
+    ghost use Rattle.std.specs.Prelude.{◌≡◌, map};
+    ghost use Rattle.ct_words.specs.Role.{given_seen};
+    ghost use Rattle.ct_words.specs.Parts.{has_name, value_of};
+
+    /// Whether the option of this name, without its dashes, was given.
+    pub fn has(&self, name: &str) -> bool
+        ensures { result ≡ has_name name.now (map given_seen self.now.given.items) }
+    {
+        is_named(&self.given, name)
+    }
+
+    /// The value of the option of this name, without its dashes; `None` where it wasn't given or takes none.
+    pub fn value(&self, name: &str) -> Option<u64>
+        ensures { result ≡ value_of name.now (map given_seen self.now.given.items) }
+    {
+        value_named(&self.given, name)
+    }
+}
+
+fn place_in<'a>(bounds: Option<Bounds>, word: &'a str) -> Option<Place<'a>>
+    ensures { option_map place_seen result ≡ place_of bounds word.entry.now }
+{
+    match bounds {
+        None => Some(Place::Text(word)),
+        Some(bounds) => match number_of(bounds, word.as_bytes()) {
+            Some(number) => Some(Place::Number(number)),
+            None => None,
+        },
+    }
+}
+
+// The positional words by what the places want, as many as there are places.
+fn places_in<'a>(
+    alloc: Global,
+    wanted: &[Option<Bounds>],
+    words: &[&'a str],
+) -> Result<Option<Vec<Place<'a>>>, AllocError>
+    ensures { IfOk result (λ places. option_map (λ list. map place_seen list.items) places ≡ places_of wanted.now (map (λ word. word.now) words.now)) }
+{
+    if wanted.len() != words.len() {
+        return Ok(None);
+    }
+    let mut places = Vec::new(alloc);
+    for (i, word) in words.iter().enumerate() {
+        match place_in(wanted[i], word) {
+            Some(place) => places.push(place)?,
+            None => return Ok(None),
+        }
+    }
+    Ok(Some(places))
+}
+
+// What the command is told by these parts.
+fn told_by<'a>(
+    alloc: Global,
+    row: CommandRow,
+    parts: Parts<'a>,
+) -> Result<Option<Said<'a>>, AllocError>
+    ensures { IfOk result (λ said. option_map seen said ≡ told_of (command_seen row) (parts_seen parts.entry)) }
+{
+    if !no_option_twice(&parts.given) {
+        return Ok(None);
+    }
+    match places_in(alloc, row.places, &parts.places)? {
+        Some(places) => Ok(Some(Said {
+            command: row.command,
+            places,
+            given: parts.given,
+        })),
+        None => Ok(None),
+    }
+}
+
+fn first_named(table: &[CommandRow], name: &str) -> Option<CommandRow>
+    ensures { result ≡ find (λ row. bytes_eq row.name.now name.now) table.now }
+{
+    table.iter().copied().find(|row| row.name == name)
+}
+
+fn row_of(table: &[CommandRow], name: &str) -> Option<CommandRow>
+    ensures { option_map command_seen result ≡ find (λ row. bytes_eq row.name name.now) (map command_seen table.now) }
+{
+    first_named(table, name)
+}
+
+fn has_one_empty(words: &[String]) -> bool
+    ensures { result ≡ list_any (λ word. length (string_bytes word) == 0) words.now }
+{
+    words.iter().any(|word| word.as_bytes().is_empty())
+}
+
+fn has_empty(words: &[String]) -> bool
+    ensures { result ≡ list_any (λ word. length word == 0) (map string_bytes words.now) }
+{
+    has_one_empty(words)
+}
+
+// The command of this name, and what the other words tell it.
+fn named_in<'a>(
+    alloc: Global,
+    table: &[CommandRow],
+    name: &str,
+    others: &'a [String],
+) -> Result<Option<Said<'a>>, AllocError>
+    ensures { IfOk result (λ said. option_map seen said ≡ named_of (map command_seen table.now) (name.now ∷ map string_bytes others.entry.now)) }
+{
+    let Some(row) = row_of(table, name) else {
+        return Ok(None);
+    };
+    match parts_in(alloc, row.options, others)? {
+        Some(parts) => told_by(alloc, row, parts),
+        None => Ok(None),
+    }
+}
+
+/// As [`said_in`], by any table.
+pub fn said_by<'a>(
+    alloc: Global,
+    table: &[CommandRow],
+    words: &'a [String],
+) -> Result<Option<Said<'a>>, AllocError>
+    ensures { IfOk result (λ said. option_map seen said ≡ said_of (map command_seen table.now) (map string_bytes words.entry.now)) }
+{
+    if words.is_empty() || has_empty(words) {
+        return Ok(None);
+    }
+    named_in(alloc, table, words[0].as_str(), &words[1..])
+}
+
+/// What the words after the program's name say, by [`COMMANDS`]; `None` where they are no command. An `Err` is want of
+/// memory. Time and memory are linear in the words, but for options: each is compared with those after it.
+pub fn said_in<'a>(alloc: Global, words: &'a [String]) -> Result<Option<Said<'a>>, AllocError>
+    ensures { IfOk result (λ said. option_map seen said ≡ said_of commands (map string_bytes words.entry.now)) }
+{
+    said_by(alloc, &COMMANDS, words)
+}

@@ -9,10 +9,9 @@ mod print;
 mod reading;
 mod reports;
 mod stage;
-mod stop;
 
 pub use reports::{PhaseReport, Report};
-pub use stop::ReportStop;
+pub use ct_lines::TextStop as ReportStop;
 
 #[cfg(test)]
 mod tests;

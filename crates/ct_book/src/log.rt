@@ -1,5 +1,5 @@
 //! The journal, with the number of entries of each pass.
-ghost use Rattle.std.specs.Prelude.{◌≡◌, ◌+◌, ◌≤◌, ◌<◌, [], ◌∷◌, ◌++◌, length, replicate, IfOk, OnOk};
+ghost use Rattle.std.specs.Prelude.{◌≡◌, ◌+◌, ◌^◌, ◌≤◌, ◌<◌, [], ◌∷◌, ◌++◌, length, replicate, IfOk, OnOk};
 ghost use Rattle.ct_completion.specs.Journal.{entries_of};
 
 use ct_completion::{Act, Entry};
@@ -75,7 +75,8 @@ impl Log {
     // The number of entries of a pass.
     pub fn count(&self, pass: u32) -> u64
         requires { pass < self.now.passes }
-        ensures { result ≡ entries_of pass self.now.entries }
+        ensures count { result ≡ entries_of pass self.now.entries }
+        ensures small { length self.now.entries < 2 ^ 64 }
     {
         self.counts[pass as usize]
     }

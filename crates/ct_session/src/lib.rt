@@ -4,5 +4,9 @@
 #![tactic(auto)]
 
 mod lines;
+mod sessions;
+mod stops;
 
 pub use lines::Line;
+pub use sessions::Session;
+pub use stops::SolveStop;

@@ -18,7 +18,7 @@ use Rattle.ct_session.specs.Sessions.{IsOpenTo, IsFullAt}
 pub sum_limit : (p : Problem) (v : Edition) (b : List ℕ) → IsEdition v → v.instance ≡ p → IsRight p b → All (λ x. x ≤ RIGHT_LIMIT) b → total b ≤ GRADE_LIMIT
 sum_limit p v b edition same right limit = right-total p (subst IsInstance same edition.instance) b right limit
 
-instance_of : (p : Place) (v : Edition) → IsEdition v → IsOfPlace p v → IsInstance p.instance
+pub instance_of : (p : Place) (v : Edition) → IsEdition v → IsOfPlace p v → IsInstance p.instance
 instance_of p v edition of_place = subst IsInstance of_place.instance edition.instance
 
 -- a later version within the limit is finished up to the grade before the full grade, as an earlier one was
@@ -28,12 +28,15 @@ full_stays p v g j f edition of_place found finished later = record { grade = fo
   where
     inst : IsInstance p.instance
     inst = instance_of p v edition of_place
+
     full : IsFullGrade p.instance p.limit f
     full = ((full_some p.instance p.limit g f).0 found).0
+
     covers : Covers (level_of p.instance v.number) (f - 1)
     covers =
         levels_rise p.instance j v.number (f - 1) later
         (subst (λ l. Covers l (f - 1)) (sym finished) (let same : f - 1 ≤ f - 1 = omega arith in same))
+
     by : (x : Level) → level_of p.instance v.number ≡ x → level_of p.instance v.number ≡ upto (f - 1)
     by (upto l) e =
         let up : f - 1 ≤ l = subst (λ x. Covers x (f - 1)) e covers in

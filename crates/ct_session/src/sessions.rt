@@ -5,7 +5,9 @@ use crate::stops::SolveStop;
 use ct_instance::Instance;
 use ct_order::sum;
 use ct_point::Point;
-use ct_version::{AnswerKind, Answered, AskStop, Desk, Finished, FullMark, NotYet, Pin, Stop, Version};
+use ct_version::{
+    AnswerKind, Answered, AskStop, Desk, Finished, FullMark, NotYet, Pin, Stop, Version,
+};
 use std::alloc::{AllocError, Global};
 use std::marker::Model;
 use std::sync::{Arc, Wait};
@@ -71,6 +73,7 @@ impl<D: Desk + Drop> Session<D> {
     pub fn pinned(&self) -> u64
         ensures number { result ≡ self.now.pinned.number }
         ensures version { IsOfPlace (D.place self.now.desk) self.now.pinned }
+        ensures edition { IsEdition self.now.pinned }
     {
         self.version.number()
     }
@@ -169,7 +172,12 @@ impl<D: Desk + Drop> Session<D> {
     /// Answers, after help where the pinned version doesn't cover the sum of b. What help gave is pinned where its number
     /// is above the pinned one, also where it stops at the limit of moves. It may wait for others. Want of memory leaves
     /// what was reached.
-    pub fn solve<R: Wait>(&mut self, rt: &R, alloc: Global, b: &[u64]) -> Result<Answered, SolveStop>
+    pub fn solve<R: Wait>(
+        &mut self,
+        rt: &R,
+        alloc: Global,
+        b: &[u64],
+    ) -> Result<Answered, SolveStop>
         requires right { IsRight (D.place self.old.desk).instance b.now }
         requires limit { All (λ x. x ≤ RIGHT_LIMIT) b.now }
         ensures home { D.home self.new.desk ≡ D.home self.old.desk }

@@ -14,5 +14,5 @@ invariant_of-self g c =
     let err : IfErr c.answer_into.result (λ _. c.answer_into.new.scratch ≡ c.self.inside.scratch) = search rules in (
       c.self.invariant.0,
       point_after (g.D.Desk.place c.self.inside.desk).instance (arc_value c.self.inside.version) c.args.b.now c.self.inside.scratch c.answer_into.new.scratch
-      c.answer_into.result edition c.self.invariant.0.instance right c.self.invariant.1 ok err,
+          c.answer_into.result edition c.self.invariant.0.instance right c.self.invariant.1 ok err,
     )

@@ -1,3 +1,4 @@
 pub mod Pinned
 pub mod Reached
 pub mod Shown
+pub mod Words

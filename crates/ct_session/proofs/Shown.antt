@@ -40,11 +40,11 @@ answered_shows i k b a false answered = (answered.answer, tt)
 
 -- ---- asks
 
-pub ask_answered : (p : Place) (v : Edition) (b : List ℕ) (a : Answered) (walks : Bool) → IsOfPlace p v → IsAnswered v b a →
-    IsAskLine p.instance (level_of p.instance v.number) walks (answer_of p.instance b) b (line_of a walks)
-ask_answered p v b a walks of_place answered =
+pub ask_answered : (p : Place) (v : Edition) (b : List ℕ) (a : Answered) (walks : Bool) (line : Line) → IsOfPlace p v → IsAnswered v b a → line ≡ line_of a walks →
+    IsAskLine p.instance (level_of p.instance v.number) walks (answer_of p.instance b) b line
+ask_answered p v b a walks line of_place answered same =
     let here : IsAnswered (version_at p v.number) b a = answered_at p v b a of_place answered in
-    (here.covers, answered_shows p.instance v.number b a walks here)
+    subst (IsAskLine p.instance (level_of p.instance v.number) walks (answer_of p.instance b) b) (sym same) (here.covers, answered_shows p.instance v.number b a walks here)
 
 pub ask_not_yet : (p : Place) (v : Edition) (b : List ℕ) (f : ℕ) (walks : Bool) → IsOfPlace p v → IsNotYet v b f →
     IsAskLine p.instance (level_of p.instance v.number) walks (answer_of p.instance b) b (NotYetLine f)
@@ -80,20 +80,20 @@ solve_shown p walks before after from b line to words step =
     subst (λ ws. AreShown p walks before after from (Solve b ∷ []) (line ∷ []) ws to) (append-nil words)
     (solved from to to b [] line [] words [] step (nothing to))
 
-pub solve_answered : (p : Place) (walks : Bool) (before after from : ℕ) (b : List ℕ) (a : Answered) (v : Edition) (words : List ℕ) → IsInstance p.instance → IsOfPlace p v →
-    from ≤ v.number → IsAnswered v b a → IsOpenTo p (total b) →
-    AreShown p walks before after from (Solve b ∷ []) (line_of a walks ∷ []) words v.number
-solve_answered p walks before after from b a v words inst of_place rises answered room =
+pub solve_answered : (p : Place) (walks : Bool) (before after from : ℕ) (b : List ℕ) (a : Answered) (line : Line) (v : Edition) (words : List ℕ) → IsInstance p.instance →
+    IsOfPlace p v → from ≤ v.number → IsAnswered v b a → IsOpenTo p (total b) → line ≡ line_of a walks →
+    AreShown p walks before after from (Solve b ∷ []) (line ∷ []) words v.number
+solve_answered p walks before after from b a line v words inst of_place rises answered room same =
     let here : IsAnswered (version_at p v.number) b a = answered_at p v b a of_place answered in
-    let step : SolveStep p walks from b (line_of a walks) v.number = record {
+    let step : SolveStep p walks from b line v.number = record {
       version = version_of p v of_place;
       rises = rises;
       reached = covers_reached p v (total b) inst of_place here.covers;
       told =
-          subst (λ o. IsFullOrAnswered o p.instance walks (answer_of p.instance b) b (line_of a walks)) (sym room)
-          (answered_shows p.instance v.number b a walks here);
+          subst (λ o. IsFullOrAnswered o p.instance walks (answer_of p.instance b) b line) (sym room)
+          (subst (IsAnsweredLine p.instance walks (answer_of p.instance b) b) (sym same) (answered_shows p.instance v.number b a walks here));
     } in
-    solve_shown p walks before after from b (line_of a walks) v.number words step
+    solve_shown p walks before after from b line v.number words step
 
 pub solve_full : (p : Place) (walks : Bool) (before after from : ℕ) (b : List ℕ) (f : ℕ) (v : Edition) (words : List ℕ) → IsOfPlace p v →
     from ≤ v.number → IsFullAt p (total b) v.number f →

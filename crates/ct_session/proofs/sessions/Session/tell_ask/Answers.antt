@@ -1,11 +1,7 @@
-use Rattle.std.proofs.Common.{rules, ◌≡◌, sym, subst}
-use Rattle.ct_instance.specs.Answer.{answer_of}
-use Rattle.ct_instance.specs.Versions.{level_of}
+use Rattle.std.proofs.Common.{rules}
 use Rattle.ct_version.specs.Answers.{IsAnswered}
 use Rattle.ct_version.specs.Desks.{latest}
-use Rattle.ct_session.specs.declared.lines.Line.{Line}
 use Rattle.ct_session.specs.declared.lines.Line.TheVariants.{NotYet}
-use Rattle.ct_session.specs.Lines.{IsAskLine}
 use Rattle.ct_session.proofs.Shown.{ask_answered, ask_not_yet, ask_shown}
 use Rattle.ct_session.proofs.sessions.Session.tell_ask.Goals as goal
 
@@ -15,11 +11,8 @@ returns-in-Ok-clause-shown g c =
     ask_shown (g.D.Desk.place c.args.self.now.desk) c.args.walks (g.D.Desk.refused c.args.self.now.desk) (g.D.Desk.refused c.ask_walk.new.self.desk)
     c.args.self.now.pinned.number (latest (g.D.Desk.words c.ask_walk.new.self.desk)) c.args.b.now c.answered_line.result c.ask_walk.new.self.pinned
     (g.D.Desk.words c.args.self.now.desk) (g.D.Desk.words c.ask_walk.new.self.desk) c.ask_walk.ensures.version c.ask_walk.ensures.pinned
-    (subst
-    (λ (line : Line). IsAskLine (g.D.Desk.place c.args.self.now.desk).instance (level_of (g.D.Desk.place c.args.self.now.desk).instance c.ask_walk.new.self.pinned.number) c.args.walks
-    (answer_of (g.D.Desk.place c.args.self.now.desk).instance c.args.b.now) c.args.b.now line)
-    (sym c.answered_line.ensures)
-    (ask_answered (g.D.Desk.place c.args.self.now.desk) c.ask_walk.new.self.pinned c.args.b.now c.in-Ok.answered c.args.walks c.ask_walk.ensures.version answered))
+    (ask_answered (g.D.Desk.place c.args.self.now.desk) c.ask_walk.new.self.pinned c.args.b.now c.in-Ok.answered c.args.walks c.answered_line.result
+    c.ask_walk.ensures.version answered c.answered_line.ensures)
     c.ask_walk.ensures.one_word
 
 pub returns-in-Err-NotYet-clause-shown : goal.returns-in-Err-NotYet-clause-shown

@@ -58,7 +58,9 @@ fn a_solve_pins_the_first_version_that_covers(rt: HostRuntime) {
     assert!(rt; session.pinned() == 0);
     match session.solve(&rt, alloc, &[8]) {
         Ok(answered) => match &answered.answer {
-            Answer::Optimum { point, costs: _ } => assert!(rt; point.as_slice() == [1, 1].as_slice()),
+            Answer::Optimum { point, costs: _ } => assert!(rt;
+                point.as_slice() == [1, 1].as_slice()
+            ),
             Answer::Infeasible { short: _ } => panic!(rt; "no optimum"),
         },
         Err(_) => panic!(rt; "no answer"),
@@ -75,7 +77,14 @@ fn an_ask_takes_a_newer_version_where_there_is_memory(rt: HostRuntime) {
         let mut session = opened(&rt, alloc, 4096, 21, has_memory);
         assert!(rt; session.ask(&[100]).is_ok() == has_memory);
         assert!(rt; session.pinned() == pinned);
-        assert!(rt; session.finished() == if has_memory { Finished::All } else { Finished::Upto(2) });
+        assert!(rt;
+            session.finished()
+                == if has_memory {
+                    Finished::All
+                } else {
+                    Finished::Upto(2)
+                }
+        );
         let (desk, version) = session.close();
         assert!(rt; desk.words.as_slice() == [24].as_slice());
         assert!(rt; desk.refused == refused && version.number() == pinned);

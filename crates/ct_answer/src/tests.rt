@@ -1,15 +1,15 @@
 //! Reports of worked scripts, and answers beside those of a listing.
 ghost use Rattle.std.specs.Prelude.{◌≤◌, All};
-ghost use Rattle.ct_vectors.specs.declared.limits.TheConstants.{MOVE_LIMIT, RIGHT_LIMIT};
+ghost use Rattle.ct_vectors.specs.declared.limits.TheConstants.{RIGHT_LIMIT};
 ghost use Rattle.ct_instance.specs.Instance.{IsRight};
 ghost use Rattle.ct_input.specs.Script.{IsRequest};
 
 use crate::{Options, answer};
 use ct_input::{Request, read_instance, read_sessions};
 use ct_instance::Instance;
-use ct_order::art_total;
 use ct_session::Line;
 use ct_slow::least_by_listing;
+use ct_vectors::limits::MOVE_LIMIT;
 use ct_version::Answer;
 use std::alloc::{AllocError, Global};
 use std::sync::Arc;
@@ -57,10 +57,10 @@ const TWO_MOVES: Options = Options {
 };
 
 // The report's text.
-fn told(alloc: Global, instance: &str, sessions: &str, options: Options) -> Option<Vec<u8>>
-    requires some { 1 ≤ options.limit }
-    requires most { options.limit ≤ MOVE_LIMIT }
-{
+fn told(alloc: Global, instance: &str, sessions: &str, options: Options) -> Option<Vec<u8>> {
+    if options.limit < 1 || options.limit as usize > MOVE_LIMIT {
+        return None;
+    }
     let inst = read_instance(alloc, instance.as_bytes()).ok()?;
     let script = read_sessions(alloc, inst.rows(), sessions.as_bytes()).ok()?;
     let shared = Arc::new(alloc, inst).ok()?;
@@ -179,44 +179,57 @@ fn reports_of_scripts(rt: HostRuntime) -> Result<(), Fail> {
     Ok(())
 }
 
+// The sum of the numbers from the k-th on.
+fn sum_from(numbers: &[u64], k: usize) -> u64 {
+    let mut sum: u64 = 0;
+    for i in k..numbers.len() {
+        sum = sum.saturating_add(numbers[i]);
+    }
+    sum
+}
+
+// Whether these are the first k of the numbers.
+fn is_front(numbers: &[u64], these: &[u64], k: usize) -> bool {
+    these.len() == k && numbers.starts_with(these)
+}
+
 // Whether the line answers b as the least point of its fiber does.
 fn is_right(alloc: Global, inst: &Instance, b: &[u64], line: &Line) -> Result<bool, AllocError>
     requires right { IsRight inst.now b.now }
     requires limit { All (λ x. x ≤ RIGHT_LIMIT) b.now }
 {
     let least = least_by_listing(alloc, inst, b)?;
-    let total = art_total(inst.costs(), least.as_slice());
+    let total = sum_from(least.as_slice(), inst.columns());
     match line {
         Line::NotYet { finished: _ } => Ok(false),
         Line::Full { grade: _ } => Ok(false),
         Line::Answered { answer, walk: _ } => match answer {
             Answer::Infeasible { short } => Ok(*short == total),
             Answer::Optimum { point, costs: _ } => {
-                Ok(total == 0 && &least.as_slice()[..inst.columns()] == point.as_slice())
+                Ok(total == 0 && is_front(least.as_slice(), point.as_slice(), inst.columns()))
             }
         },
     }
 }
 
-// How many lines answer their request so, or none where there are more of one than of the other.
-fn right_lines(
+// Whether there is a line for each request, and it answers so.
+fn are_right(
     alloc: Global,
     inst: &Instance,
     requests: &[Request],
     lines: &[Line],
-) -> Result<usize, AllocError>
+) -> Result<bool, AllocError>
     requires { All (IsRequest inst.now.rows) requests.now }
 {
-    let mut right = 0;
     for (request, line) in requests.iter().zip(lines) {
-        if is_right(alloc, inst, request.right(), line)? {
-            right += 1;
+        if !is_right(alloc, inst, request.right(), line)? {
+            return Ok(false);
         }
     }
-    Ok(right)
+    Ok(requests.len() == lines.len())
 }
 
-// How many requests of the first session of the first phase are answered so.
+// The number of requests of the first session of the first phase, where all are answered so.
 fn right_answers(alloc: Global, instance: &str, sessions: &str) -> Option<usize> {
     let inst = read_instance(alloc, instance.as_bytes()).ok()?;
     let script = read_sessions(alloc, inst.rows(), sessions.as_bytes()).ok()?;
@@ -231,7 +244,10 @@ fn right_answers(alloc: Global, instance: &str, sessions: &str) -> Option<usize>
         .sessions
         .as_slice()
         .first()?;
-    right_lines(alloc, &shared, requests.as_slice(), lines.as_slice()).ok()
+    if !are_right(alloc, &shared, requests.as_slice(), lines.as_slice()).ok()? {
+        return None;
+    }
+    Some(requests.as_slice().len())
 }
 
 #[test]

@@ -1,7 +1,7 @@
 -- The counts of a book, by the numbers of its passes.
-use Rattle.std.proofs.Common.{◌≡◌, ℕ, ◌+◌, ◌≤◌, ◌<◌, List, [], ◌∷◌, ◌++◌, length, zero, suc, map, get_or, set, slice_index, sym, ap, ◌∙◌, arith, ⊎_elim, length-set, get_or-set_same, get_or-set_other}
+use Rattle.std.proofs.Common.{◌≡◌, ℕ, ◌+◌, ◌≤◌, ◌<◌, List, [], ◌∷◌, ◌++◌, length, zero, suc, map, get_or, set, slice_index, All, sym, ap, ◌∙◌, arith, ⊎_elim, length-set, get_or-set_same, get_or-set_other}
 use Rattle.std.proofs.lemmas.Bool.{cases_eq, cases_lt}
-use Rattle.std.proofs.lemmas.List.{get_or-map, length-map, ext_get_or, get_or_push, get_or_append_left}
+use Rattle.std.proofs.lemmas.List.{get_or-map, length-map, ext_get_or, get_or_push, get_or_append_left, get_or_default}
 use Rattle.ct_instance.specs.Made.{indices}
 use Rattle.ct_instance.proofs.Entries.{length-indices}
 use Rattle.ct_completion.specs.Journal.{entries_of}
@@ -39,3 +39,10 @@ counts_grow b c by rise within same rises =
               (cases_eq k by));
       larger = omega (arith, here, there, rises.0);
     }
+
+-- the counts of a book with an empty journal are 0
+pub counts_fit : (b : BookSeen) (most : ℕ) → 0 < most → b.journal ≡ [] → All (λ n. n < most) (counts_of b)
+counts_fit b most some empty k d low =
+    let long : length (counts_of b) ≡ b.passes = length_counts b in
+    let none : get_or (counts_of b) k d ≡ 0 = get_or_default (counts_of b) k d 0 low ∙ (count_at b k (omega (arith, low, long)) ∙ ap (entries_of k) empty) in
+    omega (arith, none, some)

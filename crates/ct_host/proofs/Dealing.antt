@@ -13,7 +13,7 @@ use Rattle.ct_host.specs.Values.{PlacedVersion}
 use Rattle.ct_host.specs.Hosts.{PassSeen, key_in, pass_in, fresh_pass}
 use Rattle.ct_host.proofs.Counts.{length_counts, count_at}
 
-length_fresh : (L : LockPlace BookSeen) (from : ℕ) (cs : List ℕ) → length (fresh_passes L from cs) ≡ length cs
+pub length_fresh : (L : LockPlace BookSeen) (from : ℕ) (cs : List ℕ) → length (fresh_passes L from cs) ≡ length cs
 length_fresh L from [] = refl
 length_fresh L from (c ∷ cs) = ap suc (length_fresh L (from + 1) cs)
 
@@ -24,7 +24,7 @@ fresh_at L from (c ∷ cs) (suc k) d l =
     fresh_at L (from + 1) cs k d (omega arith) ∙ ap (λ n. fresh_lock_pass L n (get_or cs k 0)) (let e : from + 1 + k ≡ from + suc k = omega arith in e)
 
 -- the pass of the lock that comes next
-next_lock_pass : (L : LockPlace BookSeen) (done rest locks : List (LockSight BookSeen)) (x : LockSight BookSeen) → L.first.journal ≡ [] → locks ≡ fresh_passes L 0 (counts_of L.first) → locks ≡ done ++ x ∷ rest →
+pub next_lock_pass : (L : LockPlace BookSeen) (done rest locks : List (LockSight BookSeen)) (x : LockSight BookSeen) → L.first.journal ≡ [] → locks ≡ fresh_passes L 0 (counts_of L.first) → locks ≡ done ++ x ∷ rest →
     x ≡ fresh_lock_pass L (length done) 0
 next_lock_pass L done rest locks x empty made is =
     let cs = counts_of L.first in let b = L.first in let k = length done in
@@ -44,10 +44,10 @@ pub record Dealing (cell : CellPlace PlacedVersion) (lock : LockPlace BookSeen) 
   pub own : IsOfCell cell first
   pub seen : first.seen ≡ 0
   pub splits : first.splits ≡ length done
-  pub made : made ≡ map (fresh_pass (key_in cell lock)) (indices (length done))
+  pub dealt : made ≡ map (fresh_pass (key_in cell lock)) (indices (length done))
 
 pub dealing_start : (cell : CellPlace PlacedVersion) (lock : LockPlace BookSeen) (first : CellSight PlacedVersion) (made : List PassSeen) → IsOfCell cell first → first.seen ≡ 0 → first.splits ≡ 0 → made ≡ [] → Dealing cell lock first [] made
-dealing_start cell lock first made own seen splits none = record { own = own; seen = seen; splits = splits; made = none }
+dealing_start cell lock first made own seen splits none = record { own = own; seen = seen; splits = splits; dealt = none }
 
 pub dealing_more : (cell : CellPlace PlacedVersion) (lock : LockPlace BookSeen) (first after given : CellSight PlacedVersion) (done rest locks : List (LockSight BookSeen)) (x : LockSight BookSeen) (made more : List PassSeen) →
     lock.first.journal ≡ [] → locks ≡ fresh_passes lock 0 (counts_of lock.first) → locks ≡ done ++ x ∷ rest → Dealing cell lock first done made →
@@ -61,18 +61,18 @@ dealing_more cell lock first after given done rest locks x made more empty opene
       own = (ap (λ (p : CellSight PlacedVersion). p.cell) splits ∙ (d.own).0, ap (λ (p : CellSight PlacedVersion). p.first) splits ∙ (d.own).1);
       seen = ap (λ (p : CellSight PlacedVersion). p.seen) splits ∙ d.seen;
       splits = ap (λ (p : CellSight PlacedVersion). p.splits) splits ∙ (ap (λ k. k + 1) d.splits ∙ sym one);
-      made = push ∙ ((λ i. (d.made) i ++ item i ∷ []) ∙ (sym (map-append (fresh_pass (key_in cell lock)) (indices (length done)) (length done ∷ [])) ∙ ap (λ n. map (fresh_pass (key_in cell lock)) (indices n)) (sym (one ∙ add-one (length done)))));
+      dealt = push ∙ ((λ i. (d.dealt) i ++ item i ∷ []) ∙ (sym (map-append (fresh_pass (key_in cell lock)) (indices (length done)) (length done ∷ [])) ∙ ap (λ n. map (fresh_pass (key_in cell lock)) (indices n)) (sym (one ∙ add-one (length done)))));
     }
 
 -- there is room for one more
 pub dealing_room : (cell : CellPlace PlacedVersion) (lock : LockPlace BookSeen) (first : CellSight PlacedVersion) (done rest locks : List (LockSight BookSeen)) (x : LockSight BookSeen) (made : List PassSeen) (room : ℕ) → Dealing cell lock first done made →
     locks ≡ done ++ x ∷ rest → length locks ≤ room → length made < room
 dealing_room cell lock first done rest locks x made room d is most =
-    let e : length made ≡ length done = ap length d.made ∙ (length-map (indices (length done)) (fresh_pass (key_in cell lock)) ∙ length-indices (length done)) in
+    let e : length made ≡ length done = ap length d.dealt ∙ (length-map (indices (length done)) (fresh_pass (key_in cell lock)) ∙ length-indices (length done)) in
     omega (arith, e, ap length is, length-append done (x ∷ rest))
 
 pub dealing_end : (cell : CellPlace PlacedVersion) (lock : LockPlace BookSeen) (first : CellSight PlacedVersion) (done locks : List (LockSight BookSeen)) (made : List PassSeen) → locks ≡ fresh_passes lock 0 (counts_of lock.first) → locks ≡ done → Dealing cell lock first done made →
     made ≡ map (fresh_pass (key_in cell lock)) (indices lock.first.passes)
 dealing_end cell lock first done locks made opened is d =
     let long : length done ≡ lock.first.passes = sym (ap length is) ∙ (ap length opened ∙ (length_fresh lock 0 (counts_of lock.first) ∙ length_counts lock.first)) in
-    d.made ∙ ap (λ n. map (fresh_pass (key_in cell lock)) (indices n)) long
+    d.dealt ∙ ap (λ n. map (fresh_pass (key_in cell lock)) (indices n)) long

@@ -14,6 +14,6 @@ mod stage;
 #[cfg(test)]
 mod tests;
 
+pub use ct_lines::TextStop as LedgerStop;
 pub use entries::LedgerEntry;
 pub use ledgers::Ledger;
-pub use ct_lines::TextStop as LedgerStop;

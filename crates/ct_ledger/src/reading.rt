@@ -159,6 +159,7 @@ struct LedgerReader {
 
 impl LineReader for LedgerReader {
     type Stage = Stage;
+
     type Value = Ledger;
 
     ghost Seen = { Seen };

@@ -14,6 +14,7 @@ use ct_text::Pieces;
 /// (`is_closed`); `closed` is the one that stands for the text of a value. `IsStage` holds of every stage that is come to.
 pub trait LineReader {
     type Stage: Drop;
+
     type Value: Drop;
 
     ghost Seen: { Type 0 };

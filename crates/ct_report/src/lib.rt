@@ -10,8 +10,8 @@ mod reading;
 mod reports;
 mod stage;
 
-pub use reports::{PhaseReport, Report};
 pub use ct_lines::TextStop as ReportStop;
+pub use reports::{PhaseReport, Report};
 
 #[cfg(test)]
 mod tests;

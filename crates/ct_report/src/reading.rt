@@ -193,6 +193,7 @@ struct ReportReader {
 
 impl LineReader for ReportReader {
     type Stage = Stage;
+
     type Value = Report;
 
     ghost Seen = { Seen };

@@ -119,6 +119,7 @@ fn a_solve_that_is_covered_needs_no_help(rt: HostRuntime) {
 }
 
 // A gate that counts its calls, and stops the program where one comes by another or out of turn.
+#[derive(Drop)]
 struct Counted<'a, R> {
     rt: &'a R,
     turns: Cell<u64>,

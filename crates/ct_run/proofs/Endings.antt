@@ -27,7 +27,7 @@ ending_unstopped : (outcome : RunOutcome) (status : Status) (text : List ℕ) �
 ending_unstopped usage status text h = ap is_stop h.0
 ending_unstopped (bad_instance fault) status text h = ap is_stop h.0
 ending_unstopped (bad_sessions fault) status text h = ap is_stop h.0
-ending_unstopped (answered i script) status text h = ap is_stop h.0
+ending_unstopped (answered c script) status text h = ap is_stop h.0
 
 module _ (plan : Plan) (told : List ℕ → Told) (before now : List ℕ → ℕ) where
   came_to : (ending : Ending) → Ran plan told before now (Ok ending) → Ends plan told (λ outcome. Fits outcome ending)

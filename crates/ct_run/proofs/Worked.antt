@@ -1,4 +1,4 @@
--- The definitions on worked examples, by computation: coins of 3 and 5 at cost 2 and 3.
+-- The definitions on worked examples, by computation.
 use Rattle.std.proofs.Common.{pos, negsuc, ◌≡◌, ℕ, Bool, true, false, List, ◌++◌, [], ◌∷◌, Option, None, Some, Result, Ok, Err, refl, codes}
 use Rattle.std.specs.Fmt.{digits}
 use Rattle.ct_instance.specs.Instance.{Problem}
@@ -8,7 +8,6 @@ use Rattle.ct_input.specs.declared.fault.Fault.TheVariants.{TooLong, Text}
 use Rattle.ct_input.specs.declared.fault.TextReason.TheVariants.{ZeroColumn}
 use Rattle.ct_input.specs.declared.script.Request.TheVariants.{Ask, Solve}
 use Rattle.ct_input.specs.declared.script.Script.{Script}
-use Rattle.ct_run.specs.Report.{newline, line_text, report_text, answers_of}
 use Rattle.ct_outside.specs.Shelf.{Told, untold, absent, holds}
 use Rattle.ct_input.specs.declared.fault.Fault.{Fault}
 use Rattle.ct_input.specs.Files.{instance_file, session_file}
@@ -17,27 +16,11 @@ use Rattle.ct_text.specs.Numbers.{natural_of}
 use Rattle.ct_words.specs.Parts.{parts_of}
 use Rattle.ct_words.specs.Said.{places_of}
 use Rattle.ct_run.specs.Words.{answer, certify, command_of}
-use Rattle.ct_run.specs.Outcome.{bad_instance, bad_sessions, answered, IsEnding, Wrote}
-use Rattle.ct_run.specs.Plan.{ends, by_value, sessions_plan, answer_plan}
+use Rattle.ct_run.specs.Outcome.{newline, bad_instance, bad_sessions, answered, IsEnding, Wrote}
+use Rattle.ct_run.specs.Plan.{ends, by_value, case_of, sessions_plan, answer_plan}
+use Rattle.ct_legal.specs.Cases.{Case}
+use Rattle.ct_answer.specs.declared.options.Options.{Options}
 use Rattle.ct_run.specs.Running.{HasBytes, Ends}
-
-abbrev coins : Problem
-coins = record { rows = 1; columns = (3 ∷ []) ∷ (5 ∷ []) ∷ []; cost_rows = (pos 2 ∷ pos 3 ∷ []) ∷ [] }
-
-abbrev one_session : Script
-one_session = record { phases = record { target = 0; sessions = (Solve (15 ∷ []) ∷ Ask (7 ∷ []) ∷ []) ∷ [] } ∷ [] }
-
-line_of_gain : line_text (optimum (2 ∷ 0 ∷ []) (negsuc 1 ∷ [])) ≡ codes "optimum -2 at 2 0" ++ newline
-unfolding digits
-line_of_gain = refl
-
-two_answers : report_text (answers_of coins one_session) ≡
-    codes "report 1" ++ newline ++ codes "phase 1" ++ newline ++ codes "session 1" ++ newline ++ codes "optimum 9 at 0 3" ++ newline ++ codes "infeasible short 1" ++ newline ++ codes "end" ++ newline
-unfolding least_of fiber_of digits
-two_answers = refl
-
-no_phase : report_text (answers_of coins (record { phases = [] })) ≡ codes "report 1" ++ newline ++ codes "end" ++ newline
-no_phase = refl
 
 zero_column_line : IsEnding (bad_instance (Text 5 3 ZeroColumn)) BadInstance (codes "bad instance: line 5 column 3: zero column" ++ newline)
 unfolding digits
@@ -75,19 +58,18 @@ of_bytes untold P G f h = f h.0 h.1
 of_bytes absent P G f h = absurd h
 of_bytes (holds bytes) P G f h = f bytes h
 
-no_usage_by_sessions : (read : Result Script Fault) (i : Problem) (told : List ℕ → Told) (old new : Option (List ℕ)) →
-    Ends (by_value bad_sessions (λ script. ends (answered i script)) read) told (Wrote Usage old new) → ⊥
-no_usage_by_sessions (Ok script) i told old new wrote = let no : Usage ≡ Done = wrote.1.0.0 in cc
-no_usage_by_sessions (Err fault) i told old new wrote = let no : Usage ≡ BadSessions = wrote.1.0.0 in cc
+no_usage_by_sessions : (read : Result Script Fault) (c : Case) (told : List ℕ → Told) (old new : Option (List ℕ)) →
+    Ends (by_value bad_sessions (λ script. ends (answered c script)) read) told (Wrote Usage old new) → ⊥
+no_usage_by_sessions (Ok script) c told old new wrote = let no : Usage ≡ Done = wrote.1.0.0 in cc
+no_usage_by_sessions (Err fault) c told old new wrote = let no : Usage ≡ BadSessions = wrote.1.0.0 in cc
 
-no_usage : (read : Result Problem Fault) (sessions : List ℕ) (told : List ℕ → Told) (old new : Option (List ℕ)) →
-    Ends (by_value bad_instance (sessions_plan sessions) read) told (Wrote Usage old new) → ⊥
-no_usage (Ok i) sessions told old new wrote =
-    of_bytes (told sessions) _ ⊥ (λ bytes. no_usage_by_sessions (session_file i.rows bytes) i told old new) wrote
-no_usage (Err fault) sessions told old new wrote = let no : Usage ≡ BadInstance = wrote.1.0.0 in cc
+no_usage : (read : Result Problem Fault) (sessions : List ℕ) (o : Options) (told : List ℕ → Told) (old new : Option (List ℕ)) →
+    Ends (by_value bad_instance (λ i. sessions_plan sessions (case_of o i)) read) told (Wrote Usage old new) → ⊥
+no_usage (Ok i) sessions o told old new wrote =
+    of_bytes (told sessions) _ ⊥ (λ bytes. no_usage_by_sessions (session_file i.rows bytes) (case_of o i) told old new) wrote
+no_usage (Err fault) sessions o told old new wrote = let no : Usage ≡ BadInstance = wrote.1.0.0 in cc
 
-usage_of_answer : (unbuilt : Bool) (instance sessions : List ℕ) (told : List ℕ → Told) (old new : Option (List ℕ)) →
-    Ends (answer_plan unbuilt instance sessions) told (Wrote Usage old new) → unbuilt ≡ true
-usage_of_answer true instance sessions told old new wrote = refl
-usage_of_answer false instance sessions told old new wrote =
-    absurd (of_bytes (told instance) _ ⊥ (λ bytes. no_usage (instance_file bytes) sessions told old new) wrote)
+no_usage_of_answer : (instance sessions : List ℕ) (o : Options) (told : List ℕ → Told) (old new : Option (List ℕ)) →
+    Ends (answer_plan instance sessions o) told (Wrote Usage old new) → ⊥
+no_usage_of_answer instance sessions o told old new wrote =
+    of_bytes (told instance) _ ⊥ (λ bytes. no_usage (instance_file bytes) sessions o told old new) wrote

@@ -1,4 +1,3 @@
-pub mod Report
 pub mod Words
 pub mod Commands
 pub mod Status

@@ -1,10 +1,11 @@
 -- What a command does: it asks for files by their names, one after another, and comes to an outcome.
-use Rattle.std.specs.Prelude.{ℕ, ◌||◌, Bool, true, false, nat_lt, List, Option, Some, None, Result, Ok, Err, map, string_bytes, String}
+use Rattle.std.specs.Prelude.{ℕ, List, Option, Some, None, Result, Ok, Err, map, string_bytes, String}
 use Rattle.std.specs.declared.alloc.Global.{Global}
 use Rattle.ct_input.specs.declared.fault.Fault.{Fault}
 use Rattle.ct_input.specs.Files.{instance_file, session_file}
 use Rattle.ct_instance.specs.Instance.{Problem}
-use Rattle.ct_vectors.specs.declared.limits.TheConstants.{MOVE_LIMIT}
+use Rattle.ct_legal.specs.Cases.{Case, plain_case}
+use Rattle.ct_answer.specs.declared.options.Options.{Options}
 use Rattle.ct_run.specs.Words.{Command, answer, certify, check, command_of}
 use Rattle.ct_run.specs.Outcome.{RunOutcome, usage, bad_instance, bad_sessions, answered}
 
@@ -22,18 +23,20 @@ by_value refused go (Err fault) = ends (refused fault)
 abbrev pub reads : {A : Type 0} → List ℕ → (List ℕ → Result A Fault) → (Fault → RunOutcome) → (A → Plan) → Plan
 reads name value_of refused go = asks name (λ bytes. by_value refused go (value_of bytes))
 
--- answers the requests of a session file of an instance
-abbrev pub sessions_plan : List ℕ → Problem → Plan
-sessions_plan sessions i = reads sessions (session_file i.rows) bad_sessions (λ script. ends (answered i script))
+-- answers the requests of a session file
+abbrev pub sessions_plan : List ℕ → Case → Plan
+sessions_plan sessions c = reads sessions (session_file (c.instance).rows) bad_sessions (λ script. ends (answered c script))
 
--- the answers are listed one by one, without walks, levels and a limit on moves: these options aren't built yet
-abbrev pub answer_plan : Bool → List ℕ → List ℕ → Plan
-answer_plan true instance sessions = ends usage
-answer_plan false instance sessions = reads instance instance_file bad_instance (sessions_plan sessions)
+-- the case of an instance with the options of `answer`
+abbrev pub case_of : Options → Problem → Case
+case_of o i = plain_case i o.limit o.walks o.levels
+
+abbrev pub answer_plan : List ℕ → List ℕ → Options → Plan
+answer_plan instance sessions o = reads instance instance_file bad_instance (λ i. sessions_plan sessions (case_of o i))
 
 abbrev pub plan_of : Option Command → Plan
 plan_of None = ends usage
-plan_of (Some (answer instance sessions walks levels moves)) = answer_plan (walks || levels || nat_lt moves MOVE_LIMIT) instance sessions
+plan_of (Some (answer instance sessions walks levels moves)) = answer_plan instance sessions (record { limit = moves; walks = walks; levels = levels })
 plan_of (Some (certify instance grade moves)) = ends usage
 plan_of (Some (check instance ledger)) = ends usage
 

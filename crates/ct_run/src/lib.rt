@@ -9,7 +9,6 @@
 
 mod ending;
 mod reading;
-mod report;
 mod run;
 mod status;
 mod stop;

@@ -1,10 +1,14 @@
 //! The top call.
-ghost use Rattle.std.specs.Prelude.{◌≡◌, ◌≤◌, ⊤, false, ℕ, List, Some, option_map};
+ghost use Rattle.std.specs.Prelude.{◌≡◌, ◌≤◌, ⊤, false, ℕ, List, option_map, IfSome};
+ghost use Rattle.std.specs.Arc.{arc_value};
+ghost use Rattle.ct_input.specs.Sheet.{Gives};
+ghost use Rattle.ct_input.specs.Files.{instance_file};
 ghost use Rattle.ct_outside.specs.Faults.{Rose};
 ghost use Rattle.ct_outside.specs.Shelf.{KeepsShelf};
 ghost use Rattle.ct_run.specs.Commands.{seen};
 ghost use Rattle.ct_run.specs.Outcome.{Wrote, WroteFront, is_stop, IsUnlessStopped, IsUnlessMemory};
-ghost use Rattle.ct_run.specs.Plan.{sessions_plan, answer_plan, plan_of, plan_in};
+ghost use Rattle.ct_run.specs.Plan.{case_of, sessions_plan, answer_plan, plan_of, plan_in};
+ghost use Rattle.ct_run.specs.Words.{IsLimit, IsCommandWithin};
 ghost use Rattle.ct_run.specs.Running.{Ends, WouldEnd, ComesTo, Runs, HasReadFault, NoReadFault};
 ghost use Rattle.ct_run.specs.Stopping.{Ran};
 
@@ -15,46 +19,62 @@ use crate::reading::file_at;
 use crate::status::Status;
 use crate::stop::Stop;
 use crate::words::{Command, command_in};
+use ct_answer::Options;
 use ct_input::limits::{INSTANCE_FILE_LIMIT, SESSION_FILE_LIMIT};
 use ct_input::{InputStop, read_instance, read_sessions};
 use ct_instance::Instance;
 use ct_outside::{Shelf, Sink, write_whole};
-use ct_vectors::limits::MOVE_LIMIT;
 use std::alloc::Global;
+use std::sync::Arc;
+
+// The instance of a file, shared.
+fn instance_in(alloc: Global, bytes: &[u8]) -> Result<Arc<Instance>, InputStop>
+    ensures { Gives (λ inst. arc_value inst) result (instance_file bytes.now) }
+{
+    let inst = read_instance(alloc, bytes)?;
+    match Arc::new(alloc, inst) {
+        Ok(shared) => Ok(shared),
+        Err(_) => Err(InputStop::Memory),
+    }
+}
 
 // The ending of `answer` on the session file of an instance.
 fn sessions_ending<S: Shelf>(
     alloc: Global,
-    inst: &Instance,
+    inst: &Arc<Instance>,
     sessions: &str,
+    options: Options,
     shelf: &mut S,
 ) -> Result<Ending, Stop>
-    ensures ran { Ran (sessions_plan sessions.now inst.now) (S.told shelf.old) (S.faults shelf.old) (S.faults shelf.new) result }
+    requires { IsLimit options.limit }
+    ensures ran { Ran (sessions_plan sessions.now (case_of options (arc_value inst.now))) (S.told shelf.old) (S.faults shelf.old) (S.faults shelf.new) result }
     ensures kept { S.told shelf.new ≡ S.told shelf.old }
     ensures later { (name : List ℕ) → S.faults shelf.old name ≤ S.faults shelf.new name }
 {
     let bytes = file_at(alloc, sessions, SESSION_FILE_LIMIT as u64, shelf)?;
     match read_sessions(alloc, inst.rows(), &bytes) {
-        Ok(script) => Ok(report_ending(alloc, inst, &script)?),
+        Ok(script) => Ok(report_ending(alloc, inst, &script, options)?),
         Err(InputStop::Fault(fault)) => Ok(bad_sessions_ending(alloc, &fault)?),
         Err(InputStop::Memory) => Err(Stop::Memory),
     }
 }
 
-// The ending of `answer` on these files, without options.
+// The ending of `answer` on these files.
 fn answer_ending<S: Shelf>(
     alloc: Global,
     instance: &str,
     sessions: &str,
+    options: Options,
     shelf: &mut S,
 ) -> Result<Ending, Stop>
-    ensures ran { Ran (answer_plan false instance.now sessions.now) (S.told shelf.old) (S.faults shelf.old) (S.faults shelf.new) result }
+    requires { IsLimit options.limit }
+    ensures ran { Ran (answer_plan instance.now sessions.now options) (S.told shelf.old) (S.faults shelf.old) (S.faults shelf.new) result }
     ensures kept { S.told shelf.new ≡ S.told shelf.old }
     ensures later { (name : List ℕ) → S.faults shelf.old name ≤ S.faults shelf.new name }
 {
     let bytes = file_at(alloc, instance, INSTANCE_FILE_LIMIT as u64, shelf)?;
-    match read_instance(alloc, &bytes) {
-        Ok(inst) => sessions_ending(alloc, &inst, sessions, shelf),
+    match instance_in(alloc, &bytes) {
+        Ok(inst) => sessions_ending(alloc, &inst, sessions, options, shelf),
         Err(InputStop::Fault(fault)) => Ok(bad_instance_ending(alloc, &fault)?),
         Err(InputStop::Memory) => Err(Stop::Memory),
     }
@@ -66,6 +86,7 @@ fn command_ending<S: Shelf>(
     command: Option<Command<'_>>,
     shelf: &mut S,
 ) -> Result<Ending, Stop>
+    requires { IfSome command (λ known. IsCommandWithin (seen known)) }
     ensures ran { Ran (plan_of (option_map seen command.entry)) (S.told shelf.old) (S.faults shelf.old) (S.faults shelf.new) result }
     ensures kept { S.told shelf.new ≡ S.told shelf.old }
     ensures later { (name : List ℕ) → S.faults shelf.old name ≤ S.faults shelf.new name }
@@ -80,10 +101,12 @@ fn command_ending<S: Shelf>(
                 moves,
             },
         ) => {
-            if walks || levels || moves < MOVE_LIMIT as u32 {
-                return Ok(usage_ending(alloc)?);
-            }
-            answer_ending(alloc, instance, sessions, shelf)
+            let options = Options {
+                limit: moves,
+                walks,
+                levels,
+            };
+            answer_ending(alloc, instance, sessions, options, shelf)
         }
         _ => Ok(usage_ending(alloc)?),
     }
@@ -102,10 +125,12 @@ fn ending_of<S: Shelf>(alloc: Global, words: &[String], shelf: &mut S) -> Result
 }
 
 /// Runs the command that the words after the program's name are, and writes its text or the line of its refusal:
-/// `answer INSTANCE SESSIONS` answers each request of the session file, an ask as a solve.
+/// `answer INSTANCE SESSIONS` answers each request of the session file, an ask as a solve; `--walks` shows the walk of each
+/// answer, `--levels` the level of each phase, and `--moves N` keeps test lists to N moves.
 ///
-/// It always returns. The files are held whole, and so is the text before the first write. The time is that of listing
-/// the fiber of each right-hand side.
+/// It always returns. The files are held whole, and so is the text before the first write. The time is that of completing
+/// the test set up to the greatest sum that the options and the limit on moves let the script ask for, and of a walk for
+/// each request.
 pub fn run_plain<S: Shelf, O: Sink>(
     alloc: Global,
     words: &[String],

@@ -1,11 +1,13 @@
 use Rattle.std.proofs.Common.{◌∙◌, ap, sym, subst, inl, Ok, Err, ℕ, List, [], ◌∷◌}
+use Rattle.ct_input.specs.declared.fault.Fault.{Fault}
 use Rattle.ct_input.specs.declared.fault.InputStop.{InputStop}
 use Rattle.ct_input.specs.Sheet.{Fails}
 use Rattle.ct_outside.specs.Shelf.{Told}
 use Rattle.ct_input.specs.declared.limits.TheConstants.{INSTANCE_FILE_LIMIT}
 use Rattle.ct_input.specs.Files.{instance_file}
 use Rattle.ct_run.specs.Outcome.{bad_instance}
-use Rattle.ct_run.specs.Plan.{sessions_plan}
+use Rattle.ct_run.specs.Plan.{case_of, sessions_plan}
+use Rattle.std.specs.Arc.{arc_value}
 use Rattle.ct_run.specs.Stopping.{EndedBy, StoppedBy, Ran}
 use Rattle.ct_run.proofs.TooLong.{instance-front}
 use Rattle.ct_run.proofs.Runs.{runs-read, runs-then}
@@ -19,10 +21,10 @@ returns-in-Ok-clause-ran g c =
     let before = g.S.Shelf.faults c.args.shelf.now in
     let mid = g.S.Shelf.faults c.file_at.new.shelf in
     let now = g.S.Shelf.faults c.sessions_ending.new.shelf in
-    let plan = sessions_plan c.args.sessions.now c.in-Ok.inst in
+    let plan = sessions_plan c.args.sessions.now (case_of c.args.options (arc_value c.in-Ok.inst)) in
     let ran : Ran plan told mid now result = subst (λ (t : List ℕ → Told). Ran plan t mid now result) c.in_ok-bytes.ensures.shelf.kept c.sessions_ending.ensures.ran in
     runs-read told before now (EndedBy result) (λ name. StoppedBy result (before name) (now name)) c.args.instance.now
-    instance_file bad_instance (sessions_plan c.args.sessions.now) INSTANCE_FILE_LIMIT c.in_ok-bytes.bytes.items (Ok c.in-Ok.inst)
+    instance_file bad_instance (λ i. sessions_plan c.args.sessions.now (case_of c.args.options i)) INSTANCE_FILE_LIMIT c.in_ok-bytes.bytes.items (Ok (arc_value c.in-Ok.inst))
     instance-front c.in_ok-bytes.ensures.read (ap instance_file (sym c.deref.ensures.value) ∙ c.in-Ok.ensures)
     (runs-then told before mid now (EndedBy result) (λ name. StoppedBy result (mid name) (now name)) (λ name. StoppedBy result (before name) (now name)) [] (c.args.instance.now ∷ []) plan
     (λ name out. (λ h. h, c.in_ok-bytes.ensures.shelf.others name (λ same. out (inl same))))
@@ -34,6 +36,6 @@ returns-in-Err-Fault-clause-ran g c =
     let before = g.S.Shelf.faults c.args.shelf.now in
     let now = g.S.Shelf.faults c.file_at.new.shelf in
     runs-read (g.S.Shelf.told c.args.shelf.now) before now (EndedBy result) (λ name. StoppedBy result (before name) (now name)) c.args.instance.now
-    instance_file bad_instance (sessions_plan c.args.sessions.now) INSTANCE_FILE_LIMIT c.in_ok-bytes.bytes.items (Err c.in-Err-Fault.fault)
+    instance_file bad_instance (λ i. sessions_plan c.args.sessions.now (case_of c.args.options i)) INSTANCE_FILE_LIMIT c.in_ok-bytes.bytes.items (Err c.in-Err-Fault.fault)
     instance-front c.in_ok-bytes.ensures.read (ap instance_file (sym c.deref.ensures.value) ∙ subst (λ (s : InputStop). Fails s (instance_file c.deref.result.now)) c.in-Err-Fault.field-0-is c.in-Err-Fault.ensures)
-    (λ name out. c.in_ok-bytes.ensures.shelf.others name (λ same. out (inl same)), c.in_ok-bad_instance_ending-in-Err-Fault.ensures)
+    (λ name out. c.in_ok-bytes.ensures.shelf.others name (λ same. out (inl same)), subst (λ (f : Fault). EndedBy result (bad_instance f)) c.in-Err-Fault.fault-is c.in_ok-bad_instance_ending-in-Err-Fault.ensures)

@@ -1,6 +1,7 @@
 //! Answers each example in a folder by its real files, and compares what is written with the example's output.txt.
 //!
-//! The one argument is the folder of examples. The gate gives it this crate's data/, to which `examples/` links.
+//! The one argument is the folder of examples. The gate gives it this crate's data/, to which `examples/` links. The
+//! two files of an example are texts, `.txt`, or JSON, `.json`.
 #![tactic(auto)]
 
 use anyhow::{Context, Result};
@@ -13,10 +14,15 @@ use std::{env, fs};
 // Whether `ct answer` ends with Done for the example in this folder, and writes what its output.txt has.
 fn is_answered<R: Files + AllocGlobal>(rt: &R, folder: &str) -> Result<bool> {
     let alloc = rt.alloc();
+    let form = if fs::exists(rt, format!(in alloc; "{folder}/instance.json")?)? {
+        "json"
+    } else {
+        "txt"
+    };
     let mut words = Vec::new(alloc);
     words.push(String::from_str(alloc, "answer")?)?;
-    words.push(format!(in alloc; "{folder}/instance.txt")?)?;
-    words.push(format!(in alloc; "{folder}/sessions.txt")?)?;
+    words.push(format!(in alloc; "{folder}/instance.{form}")?)?;
+    words.push(format!(in alloc; "{folder}/sessions.{form}")?)?;
     let wanted = fs::read(rt, format!(in alloc; "{folder}/output.txt")?)?;
     let mut out = MemSink::new(alloc, 4096, 1_048_576)?;
     let status = run_plain(alloc, &words, &mut FileShelf::new(rt, alloc), &mut out);

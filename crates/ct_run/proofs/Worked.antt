@@ -11,7 +11,7 @@ use Rattle.ct_input.specs.declared.script.Script.{Script}
 use Rattle.ct_run.specs.Report.{newline, line_text, report_text, answers_of}
 use Rattle.ct_outside.specs.Shelf.{Told, untold, absent, holds}
 use Rattle.ct_input.specs.declared.fault.Fault.{Fault}
-use Rattle.ct_input.specs.Files.{instance_file, session_file}
+use Rattle.ct_run.specs.Forms.{instance_file, session_file}
 use Rattle.ct_run.specs.declared.status.Status.TheVariants.{Usage}
 use Rattle.ct_run.specs.Words.{Command, answer, command_of}
 use Rattle.ct_run.specs.Outcome.{bad_instance, bad_sessions, answered, IsText, Wrote}

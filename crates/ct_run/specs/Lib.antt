@@ -3,6 +3,7 @@ pub mod Words
 pub mod Commands
 pub mod Status
 pub mod Outcome
+pub mod Forms
 pub mod Plan
 pub mod Running
 pub mod Stopping

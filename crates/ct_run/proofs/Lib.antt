@@ -1,3 +1,4 @@
+pub mod Within
 pub mod Runs
 pub mod Endings
 pub mod TooLong

@@ -1,5 +1,5 @@
 -- The definitions on worked examples, by computation: coins of 3 and 5 at cost 2 and 3.
-use Rattle.std.proofs.Common.{pos, negsuc, ◌≡◌, ℕ, List, ◌++◌, [], ◌∷◌, Option, None, Some, Result, Ok, Err, refl, codes}
+use Rattle.std.proofs.Common.{pos, negsuc, ◌≡◌, ℕ, Bool, true, false, List, ◌++◌, [], ◌∷◌, Option, None, Some, Result, Ok, Err, refl, codes}
 use Rattle.std.specs.Fmt.{digits}
 use Rattle.ct_instance.specs.Instance.{Problem}
 use Rattle.ct_instance.specs.Fiber.{fiber_of, least_of}
@@ -12,10 +12,13 @@ use Rattle.ct_run.specs.Report.{newline, line_text, report_text, answers_of}
 use Rattle.ct_outside.specs.Shelf.{Told, untold, absent, holds}
 use Rattle.ct_input.specs.declared.fault.Fault.{Fault}
 use Rattle.ct_run.specs.Forms.{instance_file, session_file}
-use Rattle.ct_run.specs.declared.status.Status.TheVariants.{Usage}
-use Rattle.ct_run.specs.Words.{Command, answer, command_of}
-use Rattle.ct_run.specs.Outcome.{bad_instance, bad_sessions, answered, IsText, Wrote}
-use Rattle.ct_run.specs.Plan.{ends, by_value, sessions_plan, plan_of}
+use Rattle.ct_run.specs.declared.status.Status.TheVariants.{Done, Usage, BadInstance, BadSessions}
+use Rattle.ct_text.specs.Numbers.{natural_of}
+use Rattle.ct_words.specs.Parts.{parts_of}
+use Rattle.ct_words.specs.Said.{places_of}
+use Rattle.ct_run.specs.Words.{answer, certify, command_of}
+use Rattle.ct_run.specs.Outcome.{bad_instance, bad_sessions, answered, IsEnding, Wrote}
+use Rattle.ct_run.specs.Plan.{ends, by_value, sessions_plan, answer_plan}
 use Rattle.ct_run.specs.Running.{HasBytes, Ends}
 
 abbrev coins : Problem
@@ -36,23 +39,36 @@ two_answers = refl
 no_phase : report_text (answers_of coins (record { phases = [] })) ≡ codes "report 1" ++ newline ++ codes "end" ++ newline
 no_phase = refl
 
-zero_column_line : IsText (bad_instance (Text 5 3 ZeroColumn)) (codes "bad instance: line 5 column 3: zero column" ++ newline)
+zero_column_line : IsEnding (bad_instance (Text 5 3 ZeroColumn)) BadInstance (codes "bad instance: line 5 column 3: zero column" ++ newline)
 unfolding digits
-zero_column_line = refl
+zero_column_line = (refl, refl)
 
-too_long_line : IsText (bad_instance TooLong) (codes "bad instance: too long" ++ newline)
-too_long_line = refl
+too_long_line : IsEnding (bad_instance TooLong) BadInstance (codes "bad instance: too long" ++ newline)
+too_long_line = (refl, refl)
 
-three_words : command_of (codes "answer" ∷ codes "-" ∷ codes "S" ∷ []) ≡ Some (answer (codes "-") (codes "S"))
+-- ---- words
+
+three_words : command_of (codes "answer" ∷ codes "-" ∷ codes "S" ∷ []) ≡ Some (answer (codes "-") (codes "S") false false 4096)
+unfolding parts_of places_of
 three_words = refl
 
-an_option : command_of (codes "answer" ∷ codes "K" ∷ codes "-S" ∷ []) ≡ None
-an_option = refl
+options_of_answer : command_of (codes "answer" ∷ codes "--moves=2" ∷ codes "--" ∷ codes "K" ∷ codes "-S" ∷ []) ≡ Some (answer (codes "K") (codes "-S") false false 2)
+unfolding parts_of places_of natural_of
+options_of_answer = refl
 
-four_words : command_of (codes "answer" ∷ codes "K" ∷ codes "S" ∷ codes "S" ∷ []) ≡ None
+a_grade : command_of (codes "certify" ∷ codes "K" ∷ codes "15" ∷ []) ≡ Some (certify (codes "K") 15 4096)
+unfolding parts_of places_of natural_of
+a_grade = refl
+
+a_dash : command_of (codes "answer" ∷ codes "K" ∷ codes "-S" ∷ []) ≡ None
+unfolding parts_of places_of
+a_dash = refl
+
+four_words : command_of (codes "check" ∷ codes "K" ∷ codes "L" ∷ codes "L" ∷ []) ≡ None
+unfolding parts_of places_of
 four_words = refl
 
--- ---- the status Usage is that of words that are no command, and of no others
+-- ---- the status Usage is that of words that are no command, or of what isn't built yet, and of no others
 
 of_bytes : (told : Told) (P : List ℕ → Type 0) (G : Type 0) → ((bytes : List ℕ) → P bytes → G) → HasBytes told P → G
 of_bytes untold P G f h = f h.0 h.1
@@ -61,16 +77,17 @@ of_bytes (holds bytes) P G f h = f bytes h
 
 no_usage_by_sessions : (read : Result Script Fault) (i : Problem) (told : List ℕ → Told) (old new : Option (List ℕ)) →
     Ends (by_value bad_sessions (λ script. ends (answered i script)) read) told (Wrote Usage old new) → ⊥
-no_usage_by_sessions (Ok script) i told old new wrote = cc
-no_usage_by_sessions (Err fault) i told old new wrote = cc
+no_usage_by_sessions (Ok script) i told old new wrote = let no : Usage ≡ Done = wrote.1.0.0 in cc
+no_usage_by_sessions (Err fault) i told old new wrote = let no : Usage ≡ BadSessions = wrote.1.0.0 in cc
 
 no_usage : (read : Result Problem Fault) (sessions : List ℕ) (told : List ℕ → Told) (old new : Option (List ℕ)) →
     Ends (by_value bad_instance (sessions_plan sessions) read) told (Wrote Usage old new) → ⊥
 no_usage (Ok i) sessions told old new wrote =
     of_bytes (told sessions) _ ⊥ (λ bytes. no_usage_by_sessions (session_file i.rows bytes) i told old new) wrote
-no_usage (Err fault) sessions told old new wrote = cc
+no_usage (Err fault) sessions told old new wrote = let no : Usage ≡ BadInstance = wrote.1.0.0 in cc
 
-usage_only : (command : Option Command) (told : List ℕ → Told) (old new : Option (List ℕ)) → Ends (plan_of command) told (Wrote Usage old new) → command ≡ None
-usage_only None told old new wrote = refl
-usage_only (Some (answer instance sessions)) told old new wrote =
+usage_of_answer : (unbuilt : Bool) (instance sessions : List ℕ) (told : List ℕ → Told) (old new : Option (List ℕ)) →
+    Ends (answer_plan unbuilt instance sessions) told (Wrote Usage old new) → unbuilt ≡ true
+usage_of_answer true instance sessions told old new wrote = refl
+usage_of_answer false instance sessions told old new wrote =
     absurd (of_bytes (told instance) _ ⊥ (λ bytes. no_usage (instance_file bytes) sessions told old new) wrote)

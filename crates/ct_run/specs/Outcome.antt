@@ -1,4 +1,4 @@
--- What a run comes to, the status and the texts that fit it, and what may come in its place.
+-- What a run comes to, the status and the texts with which it ends, and what may come in its place.
 use Rattle.std.specs.Prelude.{◌≡◌, ℕ, ◌++◌, ◌⊎◌, Bool, true, false, List, Option, codes}
 use Rattle.std.specs.Io.KnownBytes.{Appends}
 use Rattle.ct_outside.specs.Sink.{AppendsFront}
@@ -17,26 +17,23 @@ pub data RunOutcome : Type 0 where
   bad_sessions : Fault → RunOutcome
   answered : Problem → Script → RunOutcome
 
-abbrev pub status_of : RunOutcome → Status
-status_of usage = Usage
-status_of (bad_instance fault) = BadInstance
-status_of (bad_sessions fault) = BadSessions
-status_of (answered i script) = Done
+-- the status and the text with which the outcome ends
+abbrev pub IsEnding : RunOutcome → Status → List ℕ → Type 0
+IsEnding usage status text = (status ≡ Usage) × (text ≡ codes "usage: ct COMMAND ARGUMENTS" ++ newline)
+IsEnding (bad_instance fault) status text = (status ≡ BadInstance) × (text ≡ codes "bad instance: " ++ fault_text fault ++ newline)
+IsEnding (bad_sessions fault) status text = (status ≡ BadSessions) × (text ≡ codes "bad sessions: " ++ fault_text fault ++ newline)
+IsEnding (answered i script) status text = (status ≡ Done) × (text ≡ report_text (answers_of i script))
 
--- the text is one that may be written for the outcome
-abbrev pub IsText : RunOutcome → List ℕ → Type 0
-IsText usage text = text ≡ codes "usage: ct COMMAND ARGUMENTS" ++ newline
-IsText (bad_instance fault) text = text ≡ codes "bad instance: " ++ fault_text fault ++ newline
-IsText (bad_sessions fault) text = text ≡ codes "bad sessions: " ++ fault_text fault ++ newline
-IsText (answered i script) text = text ≡ report_text (answers_of i script)
+abbrev pub HasStatus : RunOutcome → Status → Type 0
+HasStatus outcome status = (text : List ℕ) × IsEnding outcome status text
 
 -- the status is the outcome's, and the whole of a text of it was appended
 abbrev pub Wrote : Status → Option (List ℕ) → Option (List ℕ) → RunOutcome → Type 0
-Wrote status old new outcome = (status_of outcome ≡ status) × ((text : List ℕ) × (IsText outcome text × Appends old new text))
+Wrote status old new outcome = (text : List ℕ) × (IsEnding outcome status text × Appends old new text)
 
 -- a front of a text of the outcome was appended
 abbrev pub WroteFront : Option (List ℕ) → Option (List ℕ) → RunOutcome → Type 0
-WroteFront old new outcome = (text : List ℕ) × (IsText outcome text × AppendsFront old new text)
+WroteFront old new outcome = (status : Status) × ((text : List ℕ) × (IsEnding outcome status text × AppendsFront old new text))
 
 -- ---- what may come in the place of the outcome
 
@@ -49,8 +46,8 @@ is_stop status = false
 
 -- the status is the outcome's, unless one of these came in its place
 abbrev pub IsUnlessStopped : Status → RunOutcome → Type 0
-IsUnlessStopped status outcome = is_stop status ≡ false → status_of outcome ≡ status
+IsUnlessStopped status outcome = is_stop status ≡ false → HasStatus outcome status
 
 -- the status is the outcome's, or memory ran out
 abbrev pub IsUnlessMemory : Status → RunOutcome → Type 0
-IsUnlessMemory status outcome = (status_of outcome ≡ status) ⊎ (status ≡ Memory)
+IsUnlessMemory status outcome = HasStatus outcome status ⊎ (status ≡ Memory)

@@ -1,10 +1,11 @@
 -- What a command does: it asks for files by their names, one after another, and comes to an outcome.
-use Rattle.std.specs.Prelude.{ℕ, List, Option, Some, None, Result, Ok, Err, map, string_bytes, String}
+use Rattle.std.specs.Prelude.{ℕ, ◌||◌, Bool, true, false, nat_lt, List, Option, Some, None, Result, Ok, Err, map, string_bytes, String}
 use Rattle.std.specs.declared.alloc.Global.{Global}
 use Rattle.ct_input.specs.declared.fault.Fault.{Fault}
 use Rattle.ct_run.specs.Forms.{instance_file, session_file}
 use Rattle.ct_instance.specs.Instance.{Problem}
-use Rattle.ct_run.specs.Words.{Command, answer, command_of}
+use Rattle.ct_vectors.specs.declared.limits.TheConstants.{MOVE_LIMIT}
+use Rattle.ct_run.specs.Words.{Command, answer, certify, check, command_of}
 use Rattle.ct_run.specs.Outcome.{RunOutcome, usage, bad_instance, bad_sessions, answered}
 
 -- it ends with an outcome, or asks for the file of a name and goes on with its bytes
@@ -25,9 +26,16 @@ reads name value_of refused go = asks name (λ bytes. by_value refused go (value
 abbrev pub sessions_plan : List ℕ → Problem → Plan
 sessions_plan sessions i = reads sessions (session_file i.rows) bad_sessions (λ script. ends (answered i script))
 
+-- the answers are listed one by one, without walks, levels and a limit on moves: these options aren't built yet
+abbrev pub answer_plan : Bool → List ℕ → List ℕ → Plan
+answer_plan true instance sessions = ends usage
+answer_plan false instance sessions = reads instance instance_file bad_instance (sessions_plan sessions)
+
 abbrev pub plan_of : Option Command → Plan
 plan_of None = ends usage
-plan_of (Some (answer instance sessions)) = reads instance instance_file bad_instance (sessions_plan sessions)
+plan_of (Some (answer instance sessions walks levels moves)) = answer_plan (walks || levels || nat_lt moves MOVE_LIMIT) instance sessions
+plan_of (Some (certify instance grade moves)) = ends usage
+plan_of (Some (check instance ledger)) = ends usage
 
 -- the plan of the words after the program's name
 abbrev pub plan_in : List (String Global) → Plan

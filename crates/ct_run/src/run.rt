@@ -1,10 +1,10 @@
 //! The top call.
-ghost use Rattle.std.specs.Prelude.{◌≡◌, ◌≤◌, ⊤, false, ℕ, List, Some};
+ghost use Rattle.std.specs.Prelude.{◌≡◌, ◌≤◌, ⊤, false, ℕ, List, Some, option_map};
 ghost use Rattle.ct_outside.specs.Faults.{Rose};
 ghost use Rattle.ct_outside.specs.Shelf.{KeepsShelf};
-ghost use Rattle.ct_run.specs.Words.{answer};
+ghost use Rattle.ct_run.specs.Commands.{seen};
 ghost use Rattle.ct_run.specs.Outcome.{Wrote, WroteFront, is_stop, IsUnlessStopped, IsUnlessMemory};
-ghost use Rattle.ct_run.specs.Plan.{sessions_plan, plan_of, plan_in};
+ghost use Rattle.ct_run.specs.Plan.{sessions_plan, answer_plan, plan_of, plan_in};
 ghost use Rattle.ct_run.specs.Running.{Ends, WouldEnd, ComesTo, Runs, HasReadFault, NoReadFault};
 ghost use Rattle.ct_run.specs.Stopping.{Ran};
 
@@ -19,6 +19,7 @@ use ct_input::InputStop;
 use ct_input::limits::{INSTANCE_FILE_LIMIT, SESSION_FILE_LIMIT};
 use ct_instance::Instance;
 use ct_outside::{Shelf, Sink, write_whole};
+use ct_vectors::limits::MOVE_LIMIT;
 use std::alloc::Global;
 
 // The ending of `answer` on the session file of an instance.
@@ -40,14 +41,14 @@ fn sessions_ending<S: Shelf>(
     }
 }
 
-// The ending of `answer` on these files.
+// The ending of `answer` on these files, without options.
 fn answer_ending<S: Shelf>(
     alloc: Global,
     instance: &str,
     sessions: &str,
     shelf: &mut S,
 ) -> Result<Ending, Stop>
-    ensures ran { Ran (plan_of (Some (answer instance.now sessions.now))) (S.told shelf.old) (S.faults shelf.old) (S.faults shelf.new) result }
+    ensures ran { Ran (answer_plan false instance.now sessions.now) (S.told shelf.old) (S.faults shelf.old) (S.faults shelf.new) result }
     ensures kept { S.told shelf.new ≡ S.told shelf.old }
     ensures later { (name : List ℕ) → S.faults shelf.old name ≤ S.faults shelf.new name }
 {
@@ -59,17 +60,44 @@ fn answer_ending<S: Shelf>(
     }
 }
 
+// The ending of a command, or of words that are none.
+fn command_ending<S: Shelf>(
+    alloc: Global,
+    command: Option<Command<'_>>,
+    shelf: &mut S,
+) -> Result<Ending, Stop>
+    ensures ran { Ran (plan_of (option_map seen command.entry)) (S.told shelf.old) (S.faults shelf.old) (S.faults shelf.new) result }
+    ensures kept { S.told shelf.new ≡ S.told shelf.old }
+    ensures later { (name : List ℕ) → S.faults shelf.old name ≤ S.faults shelf.new name }
+{
+    match command {
+        Some(
+            Command::Answer {
+                instance,
+                sessions,
+                walks,
+                levels,
+                moves,
+            },
+        ) => {
+            if walks || levels || moves < MOVE_LIMIT as u32 {
+                return Ok(usage_ending(alloc)?);
+            }
+            answer_ending(alloc, instance, sessions, shelf)
+        }
+        _ => Ok(usage_ending(alloc)?),
+    }
+}
+
 // How the run ends before it writes.
 fn ending_of<S: Shelf>(alloc: Global, words: &[String], shelf: &mut S) -> Result<Ending, Stop>
     ensures ran { Ran (plan_in words.now) (S.told shelf.old) (S.faults shelf.old) (S.faults shelf.new) result }
     ensures kept { S.told shelf.new ≡ S.told shelf.old }
     ensures later { (name : List ℕ) → S.faults shelf.old name ≤ S.faults shelf.new name }
 {
-    match command_in(words) {
-        None => Ok(usage_ending(alloc)?),
-        Some(Command::Answer { instance, sessions }) => {
-            answer_ending(alloc, instance, sessions, shelf)
-        }
+    match command_in(alloc, words) {
+        Ok(command) => command_ending(alloc, command, shelf),
+        Err(_) => Err(Stop::Memory),
     }
 }
 

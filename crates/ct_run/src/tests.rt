@@ -186,7 +186,7 @@ fn answers_and_faults_of_texts(rt: HostRuntime) -> Result<(), Fail> {
     Ok(())
 }
 
-// Words that are no command.
+// Words that are no command, and options that aren't built yet.
 #[test]
 fn usage_of_other_words(rt: HostRuntime) -> Result<(), Fail> {
     let alloc = rt.alloc();
@@ -199,14 +199,39 @@ fn usage_of_other_words(rt: HostRuntime) -> Result<(), Fail> {
         &["answer", "", "S"][..],
         &["answer", "K", ""][..],
         &["answer", "-K", "S"][..],
+        &["answer", "K", "S", "-w"][..],
         &["answer", "K", "--"][..],
         &["answer", "K", "S", "--walks"][..],
+        &["answer", "--moves=2", "--", "K", "S"][..],
+        &["answer", "K", "S", "--moves", "02"][..],
+        &["answer", "K", "S", "--moves", "4097"][..],
+        &["check", "K"][..],
     ] {
         let mut shelf = MemShelf::new(alloc);
         let mut out = MemSink::new(alloc, 1000, 1000)?;
         let status = run_plain(alloc, &words_of(alloc, words)?, &mut shelf, &mut out);
         assert!(rt; status == Status::Usage);
         assert!(rt; out.held() == USAGE.as_bytes());
+    }
+    Ok(())
+}
+
+// Words in another order, and names that begin with `-`.
+#[test]
+fn words_of_one_answer(rt: HostRuntime) -> Result<(), Fail> {
+    let alloc = rt.alloc();
+    for words in [
+        &["answer", "--moves", "4096", "K", "-"][..],
+        &["answer", "K", "--", "-S"][..],
+    ] {
+        let mut shelf = MemShelf::new(alloc);
+        shelf.add(alloc, "K", K.as_bytes())?;
+        shelf.add(alloc, "-", ONE.as_bytes())?;
+        shelf.add(alloc, "-S", ONE.as_bytes())?;
+        let mut out = MemSink::new(alloc, 1000, 1000)?;
+        let status = run_plain(alloc, &words_of(alloc, words)?, &mut shelf, &mut out);
+        assert!(rt; status == Status::Done);
+        assert!(rt; out.held() == REPORT.as_bytes());
     }
     Ok(())
 }

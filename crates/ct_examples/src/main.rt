@@ -1,7 +1,8 @@
 //! Answers each example in a folder by its real files, and compares what is written with the example's output.txt, and
 //! with walks with its walks.txt.
 //!
-//! The one argument is the folder of examples. The gate gives it this crate's data/, to which `examples/` links.
+//! The one argument is the folder of examples. The gate gives it this crate's data/, to which `examples/` links. The
+//! two files of an example are texts, `.txt`, or JSON, `.json`.
 #![tactic(auto)]
 
 use anyhow::{Context, Result};
@@ -19,13 +20,18 @@ fn is_answered<R: Files + AllocGlobal>(
     stored: &str,
 ) -> Result<bool> {
     let alloc = rt.alloc();
+    let form = if fs::exists(rt, format!(in alloc; "{folder}/instance.json")?)? {
+        "json"
+    } else {
+        "txt"
+    };
     let mut words = Vec::new(alloc);
     words.push(String::from_str(alloc, "answer")?)?;
     for option in options {
         words.push(String::from_str(alloc, option)?)?;
     }
-    words.push(format!(in alloc; "{folder}/instance.txt")?)?;
-    words.push(format!(in alloc; "{folder}/sessions.txt")?)?;
+    words.push(format!(in alloc; "{folder}/instance.{form}")?)?;
+    words.push(format!(in alloc; "{folder}/sessions.{form}")?)?;
     let wanted = fs::read(rt, format!(in alloc; "{folder}/{stored}")?)?;
     let mut out = MemSink::new(alloc, 4096, 1_048_576)?;
     let status = run_plain(alloc, &words, &mut FileShelf::new(rt, alloc), &mut out);

@@ -9,7 +9,7 @@ use Rattle.ct_legal.specs.Cases.{Case}
 use Rattle.ct_run.specs.Texts.{newline}
 use Rattle.ct_outside.specs.Shelf.{Told, untold, absent, holds}
 use Rattle.ct_input.specs.declared.fault.Fault.{Fault}
-use Rattle.ct_input.specs.Files.{instance_file, session_file}
+use Rattle.ct_run.specs.Forms.{instance_file, session_file}
 use Rattle.ct_run.specs.declared.status.Status.TheVariants.{Done, Usage, BadInstance, BadSessions, BadLedger, LedgerRefused, Full}
 use Rattle.ct_text.specs.Numbers.{natural_of}
 use Rattle.ct_words.specs.Parts.{parts_of}

@@ -5,6 +5,7 @@ pub mod Status
 pub mod Checked
 pub mod Certificate
 pub mod Outcome
+pub mod Forms
 pub mod Plan
 pub mod Running
 pub mod Stopping

@@ -2,7 +2,7 @@
 use Rattle.std.specs.Prelude.{ℕ, List, Option, Some, None, Result, Ok, Err, map, string_bytes, String}
 use Rattle.std.specs.declared.alloc.Global.{Global}
 use Rattle.ct_input.specs.declared.fault.Fault.{Fault}
-use Rattle.ct_input.specs.Files.{instance_file, session_file}
+use Rattle.ct_run.specs.Forms.{instance_file, session_file}
 use Rattle.ct_instance.specs.Instance.{Problem}
 use Rattle.ct_instance.specs.Reach.{full_grade_up_to}
 use Rattle.ct_legal.specs.Cases.{Case, plain_case}

@@ -15,13 +15,13 @@ use crate::checking::check_ending;
 use crate::ending::{
     Ending, bad_instance_ending, bad_sessions_ending, report_ending, usage_ending,
 };
-use crate::reading::file_at;
+use crate::reading::{file_at, instance_in, script_in};
 use crate::status::Status;
 use crate::stop::Stop;
 use crate::words::{Command, command_in, instance_of};
 use ct_answer::Options;
 use ct_input::limits::{INSTANCE_FILE_LIMIT, LEDGER_FILE_LIMIT, SESSION_FILE_LIMIT};
-use ct_input::{InputStop, read_instance, read_sessions};
+use ct_input::InputStop;
 use ct_instance::Instance;
 use ct_outside::{Shelf, Sink, write_whole};
 use std::alloc::{AllocError, Global};
@@ -41,7 +41,7 @@ fn sessions_ending<S: Shelf>(
     ensures later { (name : List ℕ) → S.faults shelf.old name ≤ S.faults shelf.new name }
 {
     let bytes = file_at(alloc, sessions, SESSION_FILE_LIMIT as u64, shelf)?;
-    match read_sessions(alloc, inst.rows(), &bytes) {
+    match script_in(alloc, inst.rows(), &bytes) {
         Ok(script) => Ok(report_ending(alloc, inst, &script, options)?),
         Err(InputStop::Fault(fault)) => Ok(bad_sessions_ending(alloc, &fault)?),
         Err(InputStop::Memory) => Err(Stop::Memory),
@@ -122,7 +122,7 @@ fn command_ending<S: Shelf>(
         INSTANCE_FILE_LIMIT as u64,
         shelf,
     )?;
-    match read_instance(alloc, &bytes) {
+    match instance_in(alloc, &bytes) {
         Ok(read) => {
             let inst = shared(alloc, read)?;
             work_ending(alloc, command, inst, shelf)

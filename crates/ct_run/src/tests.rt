@@ -55,6 +55,32 @@ fn ends(
     Ok(status.number() == number && out.held() == text.as_bytes())
 }
 
+// Each file is in JSON or text by itself.
+#[test]
+fn files_in_json(rt: HostRuntime) -> Result<(), Fail> {
+    let instance = "{\"instance\":1,\"matrix\":[[3,5]],\"cost\":[2,3]}";
+    let sessions =
+        "{\"sessions\":1,\"phases\":[{\"target\":0,\"sessions\":[[{\"solve\":[15]},{\"ask\":[7]}]]}]}";
+    let report = "report 1\nphase 1\nsession 1\noptimum 9 at 0 3\ninfeasible short 1\nend\n";
+    for (instance, sessions, number, text) in [
+        (instance, sessions, 0, report),
+        (K, sessions, 0, report),
+        (instance, ONE, 0, REPORT),
+        (
+            K,
+            "{\"sessions\":1,\"phases\":{}}",
+            4,
+            "bad sessions: json at /phases: kind\n",
+        ),
+    ] {
+        assert!(rt;
+            ends(rt.alloc(), instance, sessions, number, text)?,
+            "{text}"
+        );
+    }
+    Ok(())
+}
+
 // Each run: the two texts, the number and what is written.
 #[test]
 fn answers_and_faults_of_texts(rt: HostRuntime) -> Result<(), Fail> {
@@ -127,7 +153,7 @@ fn answers_and_faults_of_texts(rt: HostRuntime) -> Result<(), Fail> {
             "{\"instance\":1}",
             ONE,
             3,
-            "bad instance: line 1 column 1: word\n",
+            "bad instance: json at /matrix: missing\n",
         ),
         ("", ONE, 3, "bad instance: line 1 column 1: end\n"),
         (

@@ -3,7 +3,7 @@ use Rattle.ct_input.specs.declared.fault.Fault.{Fault}
 use Rattle.ct_input.specs.declared.fault.InputStop.{InputStop}
 use Rattle.ct_input.specs.Sheet.{Fails}
 use Rattle.ct_input.specs.declared.limits.TheConstants.{SESSION_FILE_LIMIT}
-use Rattle.ct_input.specs.Files.{session_file}
+use Rattle.ct_run.specs.Forms.{session_file}
 use Rattle.ct_run.specs.Outcome.{bad_sessions, answered}
 use Rattle.ct_run.specs.Plan.{ends, case_of}
 use Rattle.std.specs.Arc.{arc_value}

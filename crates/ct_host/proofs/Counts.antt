@@ -32,11 +32,11 @@ counts_grow b c by rise within same rises =
     record {
       others = ext_get_or 0 (counts_of c) (set (counts_of b) by (slice_index (counts_of c) by)) (long ∙ sym all)
           (λ k inside.
-              let low : k < b.passes = omega (arith, inside, long, most) in
-              ⊎_elim
-              (λ (e : k ≡ by). ap (slice_index (counts_of c)) e ∙ (sym (get_or-set_same (counts_of b) by (slice_index (counts_of c) by) 0 (omega (arith, within, most))) ∙ ap (λ j. get_or (set (counts_of b) by (slice_index (counts_of c) by)) j 0) (sym e)))
-              (λ ne. count_at c k (omega (arith, low, same)) ∙ (rises.1 k ne ∙ (sym (count_at b k low) ∙ sym (get_or-set_other (counts_of b) by k (slice_index (counts_of c) by) 0 ne))))
-              (cases_eq k by));
+          let low : k < b.passes = omega (arith, inside, long, most) in
+          ⊎_elim
+          (λ (e : k ≡ by). ap (slice_index (counts_of c)) e ∙ (sym (get_or-set_same (counts_of b) by (slice_index (counts_of c) by) 0 (omega (arith, within, most))) ∙ ap (λ j. get_or (set (counts_of b) by (slice_index (counts_of c) by)) j 0) (sym e)))
+          (λ ne. count_at c k (omega (arith, low, same)) ∙ (rises.1 k ne ∙ (sym (count_at b k low) ∙ sym (get_or-set_other (counts_of b) by k (slice_index (counts_of c) by) 0 ne))))
+          (cases_eq k by));
       larger = omega (arith, here, there, rises.0);
     }
 

@@ -73,11 +73,11 @@ joining_more lock all other after counts more p rest now ps is h joined pair pus
       idle = ap (λ (q : LockSight BookSeen). q.held) joined ∙ h.idle;
       later = later_rest lock p rest (subst (AreOfLock lock) is h.later);
       pairs =
-        ap (λ (q : LockSight BookSeen). q.pairs ++ pairs_of rest) joined ∙ (ap (λ xs. (all.pairs ++ xs) ++ pairs_of rest) pair ∙
-        (append_assoc all.pairs ((p.number, p.steps) ∷ []) (pairs_of rest) ∙ (ap (λ xs. all.pairs ++ pairs_of xs) (sym is) ∙ h.pairs)));
+          ap (λ (q : LockSight BookSeen). q.pairs ++ pairs_of rest) joined ∙ (ap (λ xs. (all.pairs ++ xs) ++ pairs_of rest) pair ∙
+          (append_assoc all.pairs ((p.number, p.steps) ∷ []) (pairs_of rest) ∙ (ap (λ xs. all.pairs ++ pairs_of xs) (sym is) ∙ h.pairs)));
       steps =
-        ap (λ xs. xs ++ map (λ (q : PassSeen). q.steps) rest) push ∙ (append_assoc counts (p.steps ∷ []) (map (λ (q : PassSeen). q.steps) rest) ∙
-        (ap (λ xs. counts ++ map (λ (q : PassSeen). q.steps) xs) (sym is) ∙ h.steps));
+          ap (λ xs. xs ++ map (λ (q : PassSeen). q.steps) rest) push ∙ (append_assoc counts (p.steps ∷ []) (map (λ (q : PassSeen). q.steps) rest) ∙
+          (ap (λ xs. counts ++ map (λ (q : PassSeen). q.steps) xs) (sym is) ∙ h.steps));
     }
 
 -- there is room for one more

@@ -10,7 +10,7 @@ returns c =
     let own : c.args.by < b.passes = subst (λ (x : BookSeen). c.args.by < x.passes) (sym c.self.view_is) c.requires.pass in
     let s : Taken c.args.self.now after c.args.by c.args.r c.commit-done.result =
     subst (λ (x : BookSeen). Taken x after c.args.by c.args.r c.commit-done.result) c.self.view_is
-        (taken b after c.args.by c.args.r c.commit-done.result own c.commit-done.ensures.answer c.commit-done.ensures.count c.commit-done.ensures.others) in
+    (taken b after c.args.by c.args.r c.commit-done.result own c.commit-done.ensures.answer c.commit-done.ensures.count c.commit-done.ensures.others) in
     let passes : after.passes ≡ c.args.self.now.passes = ap (λ (p : BenchPlace). p.passes) s.place in
     record {
       place = s.place;

@@ -12,7 +12,7 @@ returns c =
     let placed : IsOfPlace (place_of after) (edition_of after) = subst (IsOfPlace (place_of after)) c.version-version.ensures.version c.version-version.ensures.place in
     let s : Stepped c.args.self.now after c.args.by c.args.target c.step-answer.result =
     subst (λ (x : BookSeen). Stepped x after c.args.by c.args.target c.step-answer.result) c.self.view_is
-        (stepped b after c.args.by c.args.target c.step-answer.result own c.step-answer.ensures.answer c.step-answer.ensures.refused c.step-answer.ensures.counts placed) in
+    (stepped b after c.args.by c.args.target c.step-answer.result own c.step-answer.ensures.answer c.step-answer.ensures.refused c.step-answer.ensures.counts placed) in
     let passes : after.passes ≡ c.args.self.now.passes = ap (λ (p : BenchPlace). p.passes) s.place in
     record {
       place = s.place;

@@ -15,8 +15,8 @@ use Rattle.ct_version.specs.Desks.{Place}
 use Rattle.ct_session.specs.declared.lines.Line.{Line}
 use Rattle.ct_session.specs.declared.lines.Line.TheVariants.{Answered, NotYet, Full}
 use Rattle.ct_session.specs.Lines.{IsAskLine, IsSolveLine, IsFullOrAnswered}
-use Rattle.ct_session.specs.Sessions.{newest}
 use Rattle.ct_session.specs.Shown.{HasReached, AskStep, SolveStep, AreShown, nothing, asked, solved}
+use Rattle.ct_session.proofs.Parts.{ask_rises}
 use Rattle.ct_legal.specs.Cases.{Case, plain_case}
 use Rattle.ct_legal.specs.Legal.{IsAtMost, IsAsked, AreLegalLines, low_after}
 
@@ -32,17 +32,6 @@ covers_at_most l x f same covers = subst (λ y. Covers y x) same covers
 at_most_by : (l : Level) (f : ℕ) → ((x : ℕ) → Covers l x → x ≤ f) → IsAtMost l f
 at_most_by (upto l) f under = under l (omega arith)
 at_most_by everything f under = let over : f + 1 ≤ f = under (f + 1) tt in absurd (omega arith)
-
-newest_rises : (from word : ℕ) → from ≤ newest from word
-newest_rises from word = by (nat_eq (word % 2) 0)
-  where
-    by : (even : Bool) → from ≤ cond even (max from (word / 2)) from
-    by true = omega arith
-    by false = omega arith
-
-ask_rises : (p : Place) (walks : Bool) (before after from word : ℕ) (b : List ℕ) (line : Line) (to : ℕ) → AskStep p walks before after from word b line to → from ≤ to
-ask_rises p walks before after from word b line to step =
-    ⊎_elim (λ (e : to ≡ from). omega arith) (λ (e : to ≡ newest from word). subst (λ k. from ≤ k) (sym e) (newest_rises from word)) step.either
 
 later_reached : (p : Place) (g j k : ℕ) → j ≤ k → HasReached p g j → HasReached p g k
 later_reached p g j k later reached = λ x c. levels_rise p.instance j k x later (reached x c)
@@ -61,8 +50,7 @@ ask_is_legal p inst walks levels before after from word b (Answered answer walk)
     let told : IsAskLine p.instance (level_of p.instance to) walks (answer_of p.instance b) b (Answered answer walk) = step.told in
     ((no_full_within p.instance inst p.limit to (total b) (step.version).version (step.version).most told.0, told.1), covers_both (level_of p.instance to) low (total b) shown told.0)
 ask_is_legal p inst walks levels before after from word b (NotYet f) to floor low step reached shown =
-    let told : IsAskLine p.instance (level_of p.instance to) walks (answer_of p.instance b) b (NotYet f) = step.told in
-    (
+    let told : IsAskLine p.instance (level_of p.instance to) walks (answer_of p.instance b) b (NotYet f) = step.told in (
       record {
         level = record { number = to; version = (step.version).version; same = sym told.0; within = (step.version).most };
         below = told.1;

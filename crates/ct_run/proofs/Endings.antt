@@ -5,12 +5,18 @@ use Rattle.std.specs.Io.KnownBytes.{Appends}
 use Rattle.ct_outside.specs.Faults.{Rose}
 use Rattle.ct_outside.specs.Shelf.{Told}
 use Rattle.ct_outside.specs.Sink.{AppendsFront}
+use Rattle.ct_instance.specs.Instance.{Problem}
+use Rattle.ct_ledger.specs.Parts.{LedgerParts}
+use Rattle.ct_checker.specs.declared.verdicts.Verdict.{Verdict}
+use Rattle.ct_checker.specs.declared.verdicts.Verdict.TheVariants.{Accepted, Refused}
+use Rattle.ct_checker.specs.Checking.{verdict_of}
+use Rattle.ct_run.specs.Checked.{IsVerdictEnding, IsChecked, over, faulty, weighed}
 use Rattle.ct_run.specs.declared.ending.Ending.{Ending}
 use Rattle.ct_run.specs.declared.status.Status.{Status}
 use Rattle.ct_run.specs.declared.status.Status.TheVariants as statuses
 use Rattle.ct_run.specs.declared.stop.Stop.{Stop}
 use Rattle.ct_run.specs.declared.stop.Stop.TheVariants.{ReadFault, Memory}
-use Rattle.ct_run.specs.Outcome.{RunOutcome, usage, bad_instance, bad_sessions, answered, IsEnding, Wrote, WroteFront, is_stop, IsUnlessStopped, IsUnlessMemory}
+use Rattle.ct_run.specs.Outcome.{RunOutcome, usage, bad_instance, bad_sessions, answered, certified, full, checked, IsEnding, Wrote, WroteFront, is_stop, IsUnlessStopped, IsUnlessMemory}
 use Rattle.ct_run.specs.Plan.{Plan}
 use Rattle.ct_run.specs.Running.{Ends, WouldEnd, ComesTo, Runs, HasReadFault, NoReadFault}
 use Rattle.ct_run.specs.Stopping.{Fits, StoppedBy, EndedBy, Ran, stop_status}
@@ -22,12 +28,24 @@ stopped-along (Ok ending) before mid now up h = h
 stopped-along (Err ReadFault) before mid now up h = omega arith
 stopped-along (Err Memory) before mid now up h = tt
 
+verdict_unstopped : (i : Problem) (l : LedgerParts) (v : Verdict) (status : Status) (text : List ℕ) → IsVerdictEnding i l v status text → is_stop status ≡ false
+verdict_unstopped i l (Accepted grade moves) status text h = ap is_stop h.1.0
+verdict_unstopped i l (Refused line reason) status text h = ap is_stop h.1.0
+
+checked_unstopped : (i : Problem) (bytes : List ℕ) (status : Status) (text : List ℕ) → IsChecked i bytes status text → is_stop status ≡ false
+checked_unstopped i bytes status text (over long own same) = ap is_stop own
+checked_unstopped i bytes status text (faulty line within fault own same) = ap is_stop own
+checked_unstopped i bytes status text (weighed l within is same verdict) = verdict_unstopped i l (verdict_of i l) status text verdict
+
 -- no outcome ends with the status of a stop
 ending_unstopped : (outcome : RunOutcome) (status : Status) (text : List ℕ) → IsEnding outcome status text → is_stop status ≡ false
 ending_unstopped usage status text h = ap is_stop h.0
 ending_unstopped (bad_instance fault) status text h = ap is_stop h.0
 ending_unstopped (bad_sessions fault) status text h = ap is_stop h.0
 ending_unstopped (answered i script) status text h = ap is_stop h.0
+ending_unstopped (certified i grade) status text h = ap is_stop h.0
+ending_unstopped (full grade) status text h = ap is_stop h.0
+ending_unstopped (checked i bytes) status text h = checked_unstopped i bytes status text h
 
 module _ (plan : Plan) (told : List ℕ → Told) (before now : List ℕ → ℕ) where
   came_to : (ending : Ending) → Ran plan told before now (Ok ending) → Ends plan told (λ outcome. Fits outcome ending)

@@ -15,15 +15,15 @@ use Rattle.ct_words.proofs.Loops.{parts-word}
 use Rattle.ct_vectors.specs.declared.limits.TheConstants.{GRADE_LIMIT}
 use Rattle.ct_run.specs.Words.{IsLimit, IsPlaceWithin, HasNumbersWithin, text_and_number}
 
-some_is : {X : Type 0} {x y : X} → Some x ≡ Some y → x ≡ y
+pub some_is : {X : Type 0} {x y : X} → Some x ≡ Some y → x ≡ y
 some_is {X} {x} {y} same = ap (λ o. unwrap_or o x) same
 
 -- what an option was made from by a function
-map_is : {X Y : Type 0} (f : X → Y) (o : Option X) (y : Y) → option_map f o ≡ Some y → (x : X) × ((o ≡ Some x) × (f x ≡ y))
+pub map_is : {X Y : Type 0} (f : X → Y) (o : Option X) (y : Y) → option_map f o ≡ Some y → (x : X) × ((o ≡ Some x) × (f x ≡ y))
 map_is f None y same = absurd (cc)
 map_is f (Some x) y same = (x, (refl, some_is same))
 
-find_has : {X : Type 0} (P : X → Type 0) (test : X → Bool) (xs : List X) (x : X) → AllByRecursion P xs → find test xs ≡ Some x → P x
+pub find_has : {X : Type 0} (P : X → Type 0) (test : X → Bool) (xs : List X) (x : X) → AllByRecursion P xs → find test xs ≡ Some x → P x
 find_has P test [] x all is = absurd (cc)
 find_has P test (y ∷ ys) x all is = by_test (test y) (find_has P test ys x all.1) is
   where
@@ -172,7 +172,7 @@ same_places (text word ∷ places) all = (tt, same_places places all.1)
 same_places (number n ∷ places) all = (all.0, same_places places all.1)
 
 -- what a row says of these places and options
-abbrev said_by_row : WordCommand → List WordGiven → List WordPlace → WordsSaid
+abbrev pub said_by_row : WordCommand → List WordGiven → List WordPlace → WordsSaid
 said_by_row row given places = record { command = row.command; places = places; given = given }
 
 told-within : (row : WordCommand) (words : List (List ℕ)) (said : WordsSaid) → IsRowWithin row → (parts_of row.options None words >>= told_of row) ≡ Some said → HasNumbersWithin said

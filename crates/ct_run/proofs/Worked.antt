@@ -12,13 +12,21 @@ use Rattle.ct_run.specs.Report.{newline, line_text, report_text, answers_of}
 use Rattle.ct_outside.specs.Shelf.{Told, untold, absent, holds}
 use Rattle.ct_input.specs.declared.fault.Fault.{Fault}
 use Rattle.ct_run.specs.Forms.{instance_file, session_file}
-use Rattle.ct_run.specs.declared.status.Status.TheVariants.{Done, Usage, BadInstance, BadSessions}
+use Rattle.ct_run.specs.declared.status.Status.TheVariants.{Done, Usage, BadInstance, BadSessions, BadLedger, LedgerRefused, Full}
 use Rattle.ct_text.specs.Numbers.{natural_of}
 use Rattle.ct_words.specs.Parts.{parts_of}
-use Rattle.ct_words.specs.Said.{places_of}
-use Rattle.ct_run.specs.Words.{answer, certify, command_of}
+use Rattle.ct_words.specs.Table.{commands}
+use Rattle.ct_words.specs.Said.{places_of, said_of}
+use Rattle.ct_run.proofs.Told.{no_command}
+use Rattle.ct_run.specs.Words.{Command, answer, certify, check, command_of}
+use Rattle.ct_instance.specs.Reach.{full_grade_up_to}
+use Rattle.ct_ledger.specs.Parts.{LedgerParts}
+use Rattle.ct_checker.specs.declared.verdicts.Verdict.{Verdict}
+use Rattle.ct_checker.specs.declared.verdicts.Verdict.TheVariants.{Accepted, Refused}
+use Rattle.ct_checker.specs.Checking.{verdict_of}
+use Rattle.ct_run.specs.Checked.{IsVerdictEnding, IsChecked, over, faulty, weighed}
 use Rattle.ct_run.specs.Outcome.{bad_instance, bad_sessions, answered, IsEnding, Wrote}
-use Rattle.ct_run.specs.Plan.{ends, by_value, sessions_plan, answer_plan}
+use Rattle.ct_run.specs.Plan.{ends, by_value, ledger_or_full, work_plan, instance_name, is_unbuilt, plan_unless, plan_of}
 use Rattle.ct_run.specs.Running.{HasBytes, Ends}
 
 abbrev coins : Problem
@@ -80,14 +88,43 @@ no_usage_by_sessions : (read : Result Script Fault) (i : Problem) (told : List �
 no_usage_by_sessions (Ok script) i told old new wrote = let no : Usage ≡ Done = wrote.1.0.0 in cc
 no_usage_by_sessions (Err fault) i told old new wrote = let no : Usage ≡ BadSessions = wrote.1.0.0 in cc
 
-no_usage : (read : Result Problem Fault) (sessions : List ℕ) (told : List ℕ → Told) (old new : Option (List ℕ)) →
-    Ends (by_value bad_instance (sessions_plan sessions) read) told (Wrote Usage old new) → ⊥
-no_usage (Ok i) sessions told old new wrote =
-    of_bytes (told sessions) _ ⊥ (λ bytes. no_usage_by_sessions (session_file i.rows bytes) i told old new) wrote
-no_usage (Err fault) sessions told old new wrote = let no : Usage ≡ BadInstance = wrote.1.0.0 in cc
+no_usage_of_grade : (found : Option ℕ) (i : Problem) (grade : ℕ) (old new : Option (List ℕ)) → Wrote Usage old new (ledger_or_full i grade found) → ⊥
+no_usage_of_grade None i grade old new wrote = let no : Usage ≡ Done = wrote.1.0.0 in cc
+no_usage_of_grade (Some first) i grade old new wrote = let no : Usage ≡ Full = wrote.1.0.0 in cc
 
-usage_of_answer : (unbuilt : Bool) (instance sessions : List ℕ) (told : List ℕ → Told) (old new : Option (List ℕ)) →
-    Ends (answer_plan unbuilt instance sessions) told (Wrote Usage old new) → unbuilt ≡ true
-usage_of_answer true instance sessions told old new wrote = refl
-usage_of_answer false instance sessions told old new wrote =
-    absurd (of_bytes (told instance) _ ⊥ (λ bytes. no_usage (instance_file bytes) sessions told old new) wrote)
+no_usage_of_verdict : (v : Verdict) (i : Problem) (l : LedgerParts) (text : List ℕ) → IsVerdictEnding i l v Usage text → ⊥
+no_usage_of_verdict (Accepted grade moves) i l text h = let no : Usage ≡ Done = h.1.0 in cc
+no_usage_of_verdict (Refused line reason) i l text h = let no : Usage ≡ LedgerRefused = h.1.0 in cc
+
+no_usage_of_ledger : (i : Problem) (bytes text : List ℕ) → IsChecked i bytes Usage text → ⊥
+no_usage_of_ledger i bytes text (over long own same) = let no : Usage ≡ BadLedger = own in cc
+no_usage_of_ledger i bytes text (faulty line within fault own same) = let no : Usage ≡ BadLedger = own in cc
+no_usage_of_ledger i bytes text (weighed l within is same verdict) = no_usage_of_verdict (verdict_of i l) i l text verdict
+
+no_usage_by_work : (command : Command) (i : Problem) (told : List ℕ → Told) (old new : Option (List ℕ)) → Ends (work_plan command i) told (Wrote Usage old new) → ⊥
+no_usage_by_work (answer instance sessions walks levels moves) i told old new wrote =
+    of_bytes (told sessions) _ ⊥ (λ bytes. no_usage_by_sessions (session_file i.rows bytes) i told old new) wrote
+no_usage_by_work (certify instance grade moves) i told old new wrote = no_usage_of_grade (full_grade_up_to i moves grade) i grade old new wrote
+no_usage_by_work (check instance ledger) i told old new wrote = of_bytes (told ledger) _ ⊥ (λ bytes w. no_usage_of_ledger i bytes w.0 w.1.0) wrote
+
+no_usage : (read : Result Problem Fault) (command : Command) (told : List ℕ → Told) (old new : Option (List ℕ)) →
+    Ends (by_value bad_instance (work_plan command) read) told (Wrote Usage old new) → ⊥
+no_usage (Ok i) command told old new wrote = no_usage_by_work command i told old new wrote
+no_usage (Err fault) command told old new wrote = let no : Usage ≡ BadInstance = wrote.1.0.0 in cc
+
+usage_unless : (unbuilt : Bool) (command : Command) (told : List ℕ → Told) (old new : Option (List ℕ)) →
+    Ends (plan_unless unbuilt command) told (Wrote Usage old new) → unbuilt ≡ true
+usage_unless true command told old new wrote = refl
+usage_unless false command told old new wrote =
+    absurd (of_bytes (told (instance_name command)) _ ⊥ (λ bytes. no_usage (instance_file bytes) command told old new) wrote)
+
+abbrev IsUsage : Option Command → Type 0
+IsUsage None = Unit {0}
+IsUsage (Some command) = is_unbuilt command ≡ true
+
+usage_only : (command : Option Command) (told : List ℕ → Told) (old new : Option (List ℕ)) → Ends (plan_of command) told (Wrote Usage old new) → IsUsage command
+usage_only None told old new wrote = tt
+usage_only (Some command) told old new wrote = usage_unless (is_unbuilt command) command told old new wrote
+
+usage_words : (words : List (List ℕ)) → command_of words ≡ None → said_of commands words ≡ None
+usage_words = no_command

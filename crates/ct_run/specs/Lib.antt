@@ -2,6 +2,8 @@ pub mod Report
 pub mod Words
 pub mod Commands
 pub mod Status
+pub mod Checked
+pub mod Certificate
 pub mod Outcome
 pub mod Forms
 pub mod Plan

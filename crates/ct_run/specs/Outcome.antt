@@ -1,5 +1,5 @@
 -- What a run comes to, the status and the texts with which it ends, and what may come in its place.
-use Rattle.std.specs.Prelude.{◌≡◌, ℕ, ◌++◌, ◌⊎◌, Bool, true, false, List, Option, codes}
+use Rattle.std.specs.Prelude.{◌≡◌, ℕ, ◌++◌, ◌⊎◌, Bool, true, false, List, Option, codes, decimal}
 use Rattle.std.specs.Io.KnownBytes.{Appends}
 use Rattle.ct_outside.specs.Sink.{AppendsFront}
 use Rattle.ct_instance.specs.Instance.{Problem}
@@ -7,8 +7,10 @@ use Rattle.ct_input.specs.declared.fault.Fault.{Fault}
 use Rattle.ct_input.specs.declared.script.Script.{Script}
 use Rattle.ct_input.specs.FaultText.{fault_text}
 use Rattle.ct_run.specs.declared.status.Status.{Status}
-use Rattle.ct_run.specs.declared.status.Status.TheVariants.{Done, Usage, BadInstance, BadSessions, ReadFault, WriteFault, Memory}
+use Rattle.ct_run.specs.declared.status.Status.TheVariants.{Done, Usage, BadInstance, BadSessions, ReadFault, WriteFault, Memory, Full}
 use Rattle.ct_run.specs.Report.{newline, report_text, answers_of}
+use Rattle.ct_run.specs.Certificate.{IsCertificate}
+use Rattle.ct_run.specs.Checked.{IsChecked}
 
 -- what a run comes to before it writes
 pub data RunOutcome : Type 0 where
@@ -16,6 +18,9 @@ pub data RunOutcome : Type 0 where
   bad_instance : Fault → RunOutcome
   bad_sessions : Fault → RunOutcome
   answered : Problem → Script → RunOutcome
+  certified : Problem → ℕ → RunOutcome
+  full : ℕ → RunOutcome
+  checked : Problem → List ℕ → RunOutcome
 
 -- the status and the text with which the outcome ends
 abbrev pub IsEnding : RunOutcome → Status → List ℕ → Type 0
@@ -23,6 +28,9 @@ IsEnding usage status text = (status ≡ Usage) × (text ≡ codes "usage: ct CO
 IsEnding (bad_instance fault) status text = (status ≡ BadInstance) × (text ≡ codes "bad instance: " ++ fault_text fault ++ newline)
 IsEnding (bad_sessions fault) status text = (status ≡ BadSessions) × (text ≡ codes "bad sessions: " ++ fault_text fault ++ newline)
 IsEnding (answered i script) status text = (status ≡ Done) × (text ≡ report_text (answers_of i script))
+IsEnding (certified i grade) status text = (status ≡ Done) × IsCertificate i grade text
+IsEnding (full grade) status text = (status ≡ Full) × (text ≡ codes "full " ++ decimal grade ++ newline)
+IsEnding (checked i bytes) status text = IsChecked i bytes status text
 
 abbrev pub HasStatus : RunOutcome → Status → Type 0
 HasStatus outcome status = (text : List ℕ) × IsEnding outcome status text

@@ -4,9 +4,10 @@ use Rattle.std.specs.declared.alloc.Global.{Global}
 use Rattle.ct_input.specs.declared.fault.Fault.{Fault}
 use Rattle.ct_run.specs.Forms.{instance_file, session_file}
 use Rattle.ct_instance.specs.Instance.{Problem}
+use Rattle.ct_instance.specs.Reach.{full_grade_up_to}
 use Rattle.ct_vectors.specs.declared.limits.TheConstants.{MOVE_LIMIT}
 use Rattle.ct_run.specs.Words.{Command, answer, certify, check, command_of}
-use Rattle.ct_run.specs.Outcome.{RunOutcome, usage, bad_instance, bad_sessions, answered}
+use Rattle.ct_run.specs.Outcome.{RunOutcome, usage, bad_instance, bad_sessions, answered, certified, full, checked}
 
 -- it ends with an outcome, or asks for the file of a name and goes on with its bytes
 pub data Plan : Type 0 where
@@ -26,16 +27,45 @@ reads name value_of refused go = asks name (λ bytes. by_value refused go (value
 abbrev pub sessions_plan : List ℕ → Problem → Plan
 sessions_plan sessions i = reads sessions (session_file i.rows) bad_sessions (λ script. ends (answered i script))
 
--- the answers are listed one by one, without walks, levels and a limit on moves: these options aren't built yet
-abbrev pub answer_plan : Bool → List ℕ → List ℕ → Plan
-answer_plan true instance sessions = ends usage
-answer_plan false instance sessions = reads instance instance_file bad_instance (sessions_plan sessions)
+-- the ledger of a grade, or the full grade where that is at most the grade
+abbrev pub ledger_or_full : Problem → ℕ → Option ℕ → RunOutcome
+ledger_or_full i grade None = certified i grade
+ledger_or_full i grade (Some first) = full first
+
+abbrev pub certify_plan : ℕ → ℕ → Problem → Plan
+certify_plan grade limit i = ends (ledger_or_full i grade (full_grade_up_to i limit grade))
+
+-- checks a ledger file
+abbrev pub check_plan : List ℕ → Problem → Plan
+check_plan ledger i = asks ledger (λ bytes. ends (checked i bytes))
+
+-- what a command does with its instance
+abbrev pub work_plan : Command → Problem → Plan
+work_plan (answer instance sessions walks levels moves) = sessions_plan sessions
+work_plan (certify instance grade moves) = certify_plan grade moves
+work_plan (check instance ledger) = check_plan ledger
+
+abbrev pub instance_name : Command → List ℕ
+instance_name (answer instance sessions walks levels moves) = instance
+instance_name (certify instance grade moves) = instance
+instance_name (check instance ledger) = instance
+
+-- Answers are listed one by one, without walks, levels and a limit on moves: these options aren't built yet.
+abbrev pub is_unbuilt : Command → Bool
+is_unbuilt (answer instance sessions walks levels moves) = walks || levels || nat_lt moves MOVE_LIMIT
+is_unbuilt (certify instance grade moves) = false
+is_unbuilt (check instance ledger) = false
+
+abbrev pub command_plan : Command → Plan
+command_plan command = reads (instance_name command) instance_file bad_instance (work_plan command)
+
+abbrev pub plan_unless : Bool → Command → Plan
+plan_unless true command = ends usage
+plan_unless false command = command_plan command
 
 abbrev pub plan_of : Option Command → Plan
 plan_of None = ends usage
-plan_of (Some (answer instance sessions walks levels moves)) = answer_plan (walks || levels || nat_lt moves MOVE_LIMIT) instance sessions
-plan_of (Some (certify instance grade moves)) = ends usage
-plan_of (Some (check instance ledger)) = ends usage
+plan_of (Some command) = plan_unless (is_unbuilt command) command
 
 -- the plan of the words after the program's name
 abbrev pub plan_in : List (String Global) → Plan

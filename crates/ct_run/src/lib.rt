@@ -7,7 +7,11 @@
 //! a plan.
 #![tactic(auto)]
 
+mod certifying;
+mod checking;
 mod ending;
+#[cfg(test)]
+mod ledger_tests;
 mod reading;
 mod report;
 mod run;

@@ -1,26 +1,30 @@
 //! The top call.
-ghost use Rattle.std.specs.Prelude.{◌≡◌, ◌≤◌, ⊤, false, ℕ, List, Some, option_map};
+ghost use Rattle.std.specs.Prelude.{◌≡◌, ◌≤◌, ⊤, false, ℕ, List, IfOk, IfSome, option_map};
+ghost use Rattle.std.specs.Arc.{arc_value};
 ghost use Rattle.ct_outside.specs.Faults.{Rose};
 ghost use Rattle.ct_outside.specs.Shelf.{KeepsShelf};
+ghost use Rattle.ct_run.specs.Words.{IsCommandWithin};
 ghost use Rattle.ct_run.specs.Commands.{seen};
 ghost use Rattle.ct_run.specs.Outcome.{Wrote, WroteFront, is_stop, IsUnlessStopped, IsUnlessMemory};
-ghost use Rattle.ct_run.specs.Plan.{sessions_plan, answer_plan, plan_of, plan_in};
+ghost use Rattle.ct_run.specs.Plan.{sessions_plan, check_plan, work_plan, command_plan, plan_of, plan_in};
 ghost use Rattle.ct_run.specs.Running.{Ends, WouldEnd, ComesTo, Runs, HasReadFault, NoReadFault};
 ghost use Rattle.ct_run.specs.Stopping.{Ran};
 
+use crate::certifying::certify_ending;
+use crate::checking::check_ending;
 use crate::ending::{
     Ending, bad_instance_ending, bad_sessions_ending, report_ending, usage_ending,
 };
 use crate::reading::{file_at, instance_in, script_in};
 use crate::status::Status;
 use crate::stop::Stop;
-use crate::words::{Command, command_in};
+use crate::words::{Command, command_in, instance_of, is_unbuilt};
 use ct_input::InputStop;
-use ct_input::limits::{INSTANCE_FILE_LIMIT, SESSION_FILE_LIMIT};
+use ct_input::limits::{INSTANCE_FILE_LIMIT, LEDGER_FILE_LIMIT, SESSION_FILE_LIMIT};
 use ct_instance::Instance;
 use ct_outside::{Shelf, Sink, write_whole};
-use ct_vectors::limits::MOVE_LIMIT;
-use std::alloc::Global;
+use std::alloc::{AllocError, Global};
+use std::sync::Arc;
 
 // The ending of `answer` on the session file of an instance.
 fn sessions_ending<S: Shelf>(
@@ -41,51 +45,96 @@ fn sessions_ending<S: Shelf>(
     }
 }
 
-// The ending of `answer` on these files, without options.
-fn answer_ending<S: Shelf>(
+// The ending of `check` on the ledger file.
+fn ledger_ending<S: Shelf>(
     alloc: Global,
-    instance: &str,
-    sessions: &str,
+    inst: &Arc<Instance>,
+    ledger: &str,
     shelf: &mut S,
 ) -> Result<Ending, Stop>
-    ensures ran { Ran (answer_plan false instance.now sessions.now) (S.told shelf.old) (S.faults shelf.old) (S.faults shelf.new) result }
+    ensures ran { Ran (check_plan ledger.now (arc_value inst.now)) (S.told shelf.old) (S.faults shelf.old) (S.faults shelf.new) result }
     ensures kept { S.told shelf.new ≡ S.told shelf.old }
     ensures later { (name : List ℕ) → S.faults shelf.old name ≤ S.faults shelf.new name }
 {
-    let bytes = file_at(alloc, instance, INSTANCE_FILE_LIMIT as u64, shelf)?;
+    let bytes = file_at(alloc, ledger, LEDGER_FILE_LIMIT as u64, shelf)?;
+    let ending = check_ending(alloc, inst, &bytes)?;
+    Ok(ending)
+}
+
+// The ending of a command on its instance.
+fn work_ending<S: Shelf>(
+    alloc: Global,
+    command: Command<'_>,
+    inst: Arc<Instance>,
+    shelf: &mut S,
+) -> Result<Ending, Stop>
+    requires { IsCommandWithin (seen command) }
+    ensures ran { Ran (work_plan (seen command.entry) (arc_value inst)) (S.told shelf.old) (S.faults shelf.old) (S.faults shelf.new) result }
+    ensures kept { S.told shelf.new ≡ S.told shelf.old }
+    ensures later { (name : List ℕ) → S.faults shelf.old name ≤ S.faults shelf.new name }
+{
+    match command {
+        Command::Answer { sessions, .. } => sessions_ending(alloc, &inst, sessions, shelf),
+        Command::Certify { grade, moves, .. } => Ok(certify_ending(alloc, inst, grade, moves)?),
+        Command::Check { ledger, .. } => ledger_ending(alloc, &inst, ledger, shelf),
+    }
+}
+
+fn shared(alloc: Global, inst: Instance) -> Result<Arc<Instance>, AllocError>
+    ensures { IfOk result (λ made. arc_value made ≡ inst) }
+{
+    match Arc::new(alloc, inst) {
+        Ok(made) => Ok(made),
+        Err(_) => Err(AllocError),
+    }
+}
+
+// The ending of a command.
+fn command_ending<S: Shelf>(
+    alloc: Global,
+    command: Command<'_>,
+    shelf: &mut S,
+) -> Result<Ending, Stop>
+    requires { IsCommandWithin (seen command) }
+    ensures ran { Ran (command_plan (seen command.entry)) (S.told shelf.old) (S.faults shelf.old) (S.faults shelf.new) result }
+    ensures kept { S.told shelf.new ≡ S.told shelf.old }
+    ensures later { (name : List ℕ) → S.faults shelf.old name ≤ S.faults shelf.new name }
+{
+    let bytes = file_at(
+        alloc,
+        instance_of(&command),
+        INSTANCE_FILE_LIMIT as u64,
+        shelf,
+    )?;
     match instance_in(alloc, &bytes) {
-        Ok(inst) => sessions_ending(alloc, &inst, sessions, shelf),
+        Ok(read) => {
+            let inst = shared(alloc, read)?;
+            work_ending(alloc, command, inst, shelf)
+        }
         Err(InputStop::Fault(fault)) => Ok(bad_instance_ending(alloc, &fault)?),
         Err(InputStop::Memory) => Err(Stop::Memory),
     }
 }
 
 // The ending of a command, or of words that are none.
-fn command_ending<S: Shelf>(
+fn ending_by<S: Shelf>(
     alloc: Global,
     command: Option<Command<'_>>,
     shelf: &mut S,
 ) -> Result<Ending, Stop>
+    requires { IfSome command (λ known. IsCommandWithin (seen known)) }
     ensures ran { Ran (plan_of (option_map seen command.entry)) (S.told shelf.old) (S.faults shelf.old) (S.faults shelf.new) result }
     ensures kept { S.told shelf.new ≡ S.told shelf.old }
     ensures later { (name : List ℕ) → S.faults shelf.old name ≤ S.faults shelf.new name }
 {
     match command {
-        Some(
-            Command::Answer {
-                instance,
-                sessions,
-                walks,
-                levels,
-                moves,
-            },
-        ) => {
-            if walks || levels || moves < MOVE_LIMIT as u32 {
+        Some(command) => {
+            if is_unbuilt(&command) {
                 return Ok(usage_ending(alloc)?);
             }
-            answer_ending(alloc, instance, sessions, shelf)
+            command_ending(alloc, command, shelf)
         }
-        _ => Ok(usage_ending(alloc)?),
+        None => Ok(usage_ending(alloc)?),
     }
 }
 
@@ -96,7 +145,7 @@ fn ending_of<S: Shelf>(alloc: Global, words: &[String], shelf: &mut S) -> Result
     ensures later { (name : List ℕ) → S.faults shelf.old name ≤ S.faults shelf.new name }
 {
     match command_in(alloc, words) {
-        Ok(command) => command_ending(alloc, command, shelf),
+        Ok(command) => ending_by(alloc, command, shelf),
         Err(_) => Err(Stop::Memory),
     }
 }

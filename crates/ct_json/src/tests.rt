@@ -1,7 +1,7 @@
 //! Files from outside, with the faults that they have.
 
 use crate::{is_json, read_instance_json, read_sessions_json};
-use ct_input::{Fault, InputStop, push_fault};
+use ct_input::{InputStop, Request, push_fault};
 use std::alloc::{AllocError, Global};
 use std::test::Fail;
 
@@ -258,4 +258,30 @@ fn which_files_are_json(rt: HostRuntime) {
     ] {
         assert!(rt; is_json(text) == json);
     }
+}
+
+#[test]
+fn values_of_files(rt: HostRuntime) -> Result<(), Fail> {
+    let text = b"{\"instance\":1,\"matrix\":[[3,5]],\"cost\":[2,3]}";
+    let instance = read_instance_json(rt.alloc(), text)
+        .ok()
+        .ok_or("an instance")?;
+    assert_eq!(rt; instance.entry(1, 2), 5);
+    let text = b"{\"sessions\":1,\"phases\":[{\"target\":9,\"sessions\":[[{\"solve\":[15]},{\"ask\":[7]}]]}]}";
+    let script = read_sessions_json(rt.alloc(), 1, text)
+        .ok()
+        .ok_or("a script")?;
+    for phase in script.phases.as_slice() {
+        assert_eq!(rt; phase.target, 9);
+        for session in phase.sessions.as_slice() {
+            assert_eq!(rt; session.as_slice().len(), 2);
+            for request in session.as_slice() {
+                match request {
+                    Request::Solve(_) => assert!(rt; request.right() == [15u64].as_slice()),
+                    Request::Ask(_) => assert!(rt; request.right() == [7u64].as_slice()),
+                }
+            }
+        }
+    }
+    Ok(())
 }

@@ -153,7 +153,7 @@ yields-sessions m spare = yields-upto (λ rs. All (IsRequest m) rs) (session m) 
 yields-phase : (m spare : ℕ) → Yields (OnFound (IsPhase m)) (phase m spare)
 unfolding phase
 yields-phase m spare =
-    (λ target below. yields-part (All (λ rs. All (IsRequest m) rs)) (OnFound (IsPhase m)) (sessions m spare) _ (yields-sessions m spare) (λ ss all. all), tt)
+    (λ target below. yields-part (All (λ rs. All (IsRequest m) rs)) (OnFound (IsPhase m)) (sessions m spare) _ (yields-sessions m spare) (λ ss all. record { target = below; sessions = all }), tt)
 
 yields-phases : (m spare : ℕ) → Yields (All (IsPhase m)) (phases m spare)
 yields-phases m spare = yields-upto (IsPhase m) (phase m) _ no_phase (yields-phase m) (All-nil (IsPhase m)) PHASE_LIMIT spare

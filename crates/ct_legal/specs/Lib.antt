@@ -1,0 +1,4 @@
+pub mod Cases
+pub mod Scripts
+pub mod Legal
+pub mod Laws

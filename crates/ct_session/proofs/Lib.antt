@@ -1,0 +1,4 @@
+pub mod Pinned
+pub mod Reached
+pub mod Shown
+pub mod Words

@@ -47,7 +47,7 @@ impl Model for Book {
 impl Book {
     ghost use Rattle.std.specs.Arc.{arc_value};
     ghost use Rattle.ct_completion.specs.Machine.{just_opened};
-    ghost use Rattle.ct_completion.specs.Journal.{entries_of, IsReplay};
+    ghost use Rattle.ct_completion.specs.Journal.{entries_of, AreSerials, IsReplay};
     ghost use Rattle.ct_version.specs.Editions.{IsEdition};
     ghost use Rattle.ct_version.specs.Desks.{IsOfPlace};
     ghost use Rattle.ct_book.specs.Books.{edition_of, place_of, IsReadyBook, IsNext, IsCommitted, IsPublished, IsStep, IsRiseOf, counts_of, CountsRise, IsCompleted, IsEnded, rise_of};
@@ -100,12 +100,33 @@ impl Book {
         &self.version
     }
 
-    /// The journal.
+    /// The journal. Each entry is of one of the passes, and its serial is the number of earlier entries of that pass.
     pub fn journal(&self) -> &[Entry]
         ensures entries { result.now ≡ self.now.journal }
         ensures replay { IsReplay self.now.instance self.now.limit self.now.journal self.now.state }
+        ensures passes { All (λ e. e.pass < self.now.passes) self.now.journal }
+        ensures serials { AreSerials self.now.journal }
     {
         self.log.entries()
+    }
+
+    /// The journal with its memory. The rest of the book is dropped.
+    pub fn into_journal(self) -> Vec<Entry>
+        ensures entries { result.items ≡ self.journal }
+        ensures replay { IsReplay self.instance self.limit self.journal self.state }
+        ensures passes { All (λ e. e.pass < self.passes) self.journal }
+        ensures serials { AreSerials self.journal }
+    {
+        let Book {
+            version: _,
+            limit: _,
+            full: _,
+            levels: _,
+            buckets: _,
+            queue: _,
+            log,
+        } = self;
+        log.into_entries()
     }
 
     /// The number of entries of a pass.

@@ -167,13 +167,12 @@ yields-sessions m spare =
 
 yields-phase : (m spare : ℕ) → Yields (OnFound (IsPhase m)) (phase m spare)
 unfolding phase
-yields-phase m spare =
-    (
-      λ target below.
-          yields-part (AreUpto (λ rs. All (IsRequest m) rs) SESSION_LIMIT) (OnFound (IsPhase m)) (sessions m spare) _ (yields-sessions m spare)
-          (λ ss are. record { target = below; few = are.few; sessions = are.all }),
-      tt,
-    )
+yields-phase m spare = (
+  λ target below.
+      yields-part (AreUpto (λ rs. All (IsRequest m) rs) SESSION_LIMIT) (OnFound (IsPhase m)) (sessions m spare) _ (yields-sessions m spare)
+      (λ ss are. record { target = below; few = are.few; sessions = are.all }),
+  tt,
+)
 
 yields-phases : (m spare : ℕ) → Yields (AreUpto (IsPhase m) PHASE_LIMIT) (phases m spare)
 yields-phases m spare = yields-upto (IsPhase m) (phase m) _ no_phase (yields-phase m) (are-none (IsPhase m) 0) PHASE_LIMIT spare

@@ -267,7 +267,8 @@ fn values_of_files(rt: HostRuntime) -> Result<(), Fail> {
         .ok()
         .ok_or("an instance")?;
     assert_eq!(rt; instance.entry(1, 2), 5);
-    let text = b"{\"sessions\":1,\"phases\":[{\"target\":9,\"sessions\":[[{\"solve\":[15]},{\"ask\":[7]}]]}]}";
+    let text =
+        b"{\"sessions\":1,\"phases\":[{\"target\":9,\"sessions\":[[{\"solve\":[15]},{\"ask\":[7]}]]}]}";
     let script = read_sessions_json(rt.alloc(), 1, text)
         .ok()
         .ok_or("a script")?;

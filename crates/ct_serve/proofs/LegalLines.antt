@@ -106,14 +106,16 @@ legal_lines p s walks levels before after floor low from requests lines words to
 legal_lines p s walks levels before after floor low from requests lines words to reached covers (asked k next m word b rs line ls ws step rest) =
     let later : k ≤ next = ask_rises p walks before after k word b line next step in
     let now_reached : HasReached p floor next = reached_later p floor k next later reached in
-    let now_covers : Covers (level_of p.instance next) low = levels_rise p.instance k next low later covers in
-    (ask_is_legal p s walks levels floor low next b line step.version now_reached now_covers step.told,
+    let now_covers : Covers (level_of p.instance next) low = levels_rise p.instance k next low later covers in (
+      ask_is_legal p s walks levels floor low next b line step.version now_reached now_covers step.told,
       legal_lines p s walks levels before after floor (low_after (case_of p walks levels) low b line) next rs ls ws m now_reached
-        (ask_covers p walks levels low next b line now_covers step.told) rest)
+          (ask_covers p walks levels low next b line now_covers step.told) rest,
+    )
 legal_lines p s walks levels before after floor low from requests lines words to reached covers (solved k next m b rs line ls found ws step rest) =
     let now_reached : HasReached p floor next = reached_later p floor k next step.rises reached in
-    let now_covers : Covers (level_of p.instance next) low = levels_rise p.instance k next low step.rises covers in
-    (step.told,
+    let now_covers : Covers (level_of p.instance next) low = levels_rise p.instance k next low step.rises covers in (
+      step.told,
       legal_lines p s walks levels before after (max floor (total b)) (low_after (case_of p walks levels) low b line) next rs ls ws m
-        (reached_both p floor (total b) next now_reached step.reached)
-        (solve_covers p s walks levels low next b line step.reached now_covers step.told) rest)
+          (reached_both p floor (total b) next now_reached step.reached)
+          (solve_covers p s walks levels low next b line step.reached now_covers step.told) rest,
+    )

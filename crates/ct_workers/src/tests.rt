@@ -58,6 +58,7 @@ fn the_limit_stops_a_worker(rt: HostRuntime) {
 }
 
 // Counts the turns that it is passed with.
+#[derive(Drop)]
 struct Turnstile<'a> {
     turns: &'a AtomicU64,
 }

@@ -4,6 +4,7 @@ ghost use Rattle.ct_vectors.specs.declared.limits.TheConstants.{GRADE_LIMIT, MOV
 
 use crate::{Act, Book, Committed, Entry, Next, Published, Remainder, Step};
 use ct_instance::{Instance, Job};
+use ct_order::CostList;
 use ct_point::Point;
 use ct_version::{AnswerKind, Finished, NotYet, Stop};
 use std::alloc::Global;
@@ -121,14 +122,6 @@ fn comes_to(
     }
 }
 
-// The cost of an optimum by one row of costs.
-fn one_cost(answer: Result<AnswerKind, NotYet>) -> Option<i128> {
-    match answer {
-        Ok(AnswerKind::Optimum { costs }) => costs.as_slice().first().copied(),
-        _ => None,
-    }
-}
-
 #[test]
 fn the_levels_of_the_coins(rt: HostRuntime) {
     let alloc = rt.alloc();
@@ -139,7 +132,10 @@ fn the_levels_of_the_coins(rt: HostRuntime) {
     comes_to(&rt, alloc, &mut book, 6, 3, Finished::Upto(7));
     comes_to(&rt, alloc, &mut book, 8, 4, Finished::Upto(9));
     let mut least = Point::zero(alloc, 3).expect(&rt, "room");
-    assert!(rt; one_cost(book.version().answer_into(&[8], &mut least)) == Some(5));
+    let paid = AnswerKind::Optimum {
+        costs: CostList::new(&[5]),
+    };
+    assert!(rt; book.version().answer_into(&[8], &mut least) == Ok(paid));
     assert!(rt; least.as_slice() == [1, 1, 0].as_slice());
     assert!(rt; book.version().answer_into(&[10], &mut least) == Err(NotYet { finished: 9 }));
     comes_to(&rt, alloc, &mut book, 10, 5, Finished::Upto(10));

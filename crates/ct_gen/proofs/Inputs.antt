@@ -31,7 +31,11 @@ session-is number index = all_made (IsRequest 1) made_request request-is (draws 
 phase-is : (number index : ℕ) → IsPhase 1 (made_phase number index)
 phase-is number index =
     let all : List Request → Type 0 = λ rs. All (IsRequest 1) rs in
-    All-cons all (made_session number index) (made_session number (index + 1) ∷ []) (session-is number index) (All-cons all (made_session number (index + 1)) [] (session-is number (index + 1)) (All-nil all))
+    record {
+      target = omega arith;
+      few = omega arith;
+      sessions = All-cons all (made_session number index) (made_session number (index + 1) ∷ []) (session-is number index) (All-cons all (made_session number (index + 1)) [] (session-is number (index + 1)) (All-nil all));
+    }
 
 script-is : (number : ℕ) → IsScript 1 (made_script number)
 script-is number =

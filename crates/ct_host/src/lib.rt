@@ -19,6 +19,8 @@ mod opening;
 mod passes;
 mod pinning;
 mod stepping;
+#[cfg(test)]
+mod tests;
 
 pub use benches::HostBench;
 pub use closing::Closed;

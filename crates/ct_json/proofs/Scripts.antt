@@ -58,10 +58,11 @@ says_phase : (m : ℕ) → Says (IsPhase m) (phase m)
 unfolding phase_at
 says_phase m spare here d =
     ok_any (object_at here d) _ (IsPhase m) (λ _.
-    ok_bind (member_as Target (natural_at GRADE_LIMIT) here d) _ (λ n. n ≤ GRADE_LIMIT) (IsPhase m) (says_member (λ n. n ≤ GRADE_LIMIT) Target (natural_at GRADE_LIMIT) (says_natural GRADE_LIMIT 0) here d) (λ target within.
+    ok_bind (member_as Target (natural_at GRADE_LIMIT) here d) _ (λ n. n ≤ GRADE_LIMIT) (IsPhase m)
+    (says_member (λ n. n ≤ GRADE_LIMIT) Target (natural_at GRADE_LIMIT) (says_natural GRADE_LIMIT 0) here d) (λ target within.
     ok_bind (member_as Sessions ((list_of 0 SESSION_LIMIT (session m)).reads spare) here d) _ (AreItems (λ rs. All (IsRequest m) rs) 0 SESSION_LIMIT) (IsPhase m)
     (says_member (AreItems (λ rs. All (IsRequest m) rs) 0 SESSION_LIMIT) Sessions ((list_of 0 SESSION_LIMIT (session m)).reads spare) (says_list (λ rs. All (IsRequest m) rs) (session m) 0 SESSION_LIMIT (says_session m) spare) here d) (λ sessions are.
-    ok_any (no_others (Target ∷ Sessions ∷ []) here d) _ (IsPhase m) (λ _. record { target = within; sessions = are.all }))))
+    ok_any (no_others (Target ∷ Sessions ∷ []) here d) _ (IsPhase m) (λ _. record { target = within; few = are.few; sessions = are.all }))))
 
 pub script_says : (m : ℕ) (here : List PathStep) (d : Data) → IfOk (script_at m here d) (IsScript m)
 unfolding script_at

@@ -2,3 +2,4 @@ pub mod Cases
 pub mod Scripts
 pub mod Legal
 pub mod Laws
+pub mod Sessions

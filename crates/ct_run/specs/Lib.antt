@@ -1,4 +1,4 @@
-pub mod Report
+pub mod Texts
 pub mod Words
 pub mod Commands
 pub mod Status

@@ -13,7 +13,6 @@ mod ending;
 #[cfg(test)]
 mod ledger_tests;
 mod reading;
-mod report;
 mod run;
 mod status;
 mod stop;

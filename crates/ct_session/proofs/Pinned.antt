@@ -1,5 +1,5 @@
 -- A pin that was refused, and the point that an answer leaves.
-use Rattle.std.proofs.Common.{◌≡◌, inl, ℕ, ◌/◌, ◌%◌, ◌<◌, ◌≤◌, max, List, Result, Ok, Err, IfOk, IfErr, refl, sym, subst, arith, eq-eqb}
+use Rattle.std.proofs.Common.{◌≡◌, inl, ℕ, ◌/◌, ◌%◌, ◌<◌, max, List, Result, Ok, Err, IfOk, IfErr, refl, sym, subst, arith, eq-eqb}
 use Rattle.ct_instance.specs.Instance.{Problem, IsRight, IsPoint}
 use Rattle.ct_instance.specs.Fiber.{least_of}
 use Rattle.ct_version.specs.declared.answers.AnswerKind.{AnswerKind}

@@ -1,10 +1,9 @@
 -- What a version of a place covers after help.
-use Rattle.std.proofs.Common.{◌≡◌, ℕ, ◌-◌, ◌≤◌, ◌<◌, List, length, All, Some, None, ⊎_elim, refl, sym, ap, subst, ◌∙◌, arith}
-use Rattle.std.proofs.lemmas.Bool.{cases_lt}
+use Rattle.std.proofs.Common.{◌≡◌, ℕ, ◌-◌, ◌≤◌, ◌<◌, List, All, Some, refl, sym, ap, subst, ◌∙◌, arith}
 use Rattle.ct_vectors.specs.Vectors.{total}
 use Rattle.ct_vectors.specs.declared.limits.TheConstants.{RIGHT_LIMIT, GRADE_LIMIT}
 use Rattle.ct_instance.specs.Instance.{Problem, IsInstance, IsRight}
-use Rattle.ct_instance.specs.Versions.{Level, upto, everything, Covers, level_of, version_list, IsVersion, IsFullGrade}
+use Rattle.ct_instance.specs.Versions.{Level, upto, everything, Covers, level_of, IsFullGrade}
 use Rattle.ct_instance.specs.Reach.{full_grade_up_to}
 use Rattle.ct_version.specs.Editions.{Edition, IsEdition}
 use Rattle.ct_version.specs.Answers.{IsNotYet}

@@ -1,5 +1,5 @@
 -- What one request tells, and what two lists of requests tell one after the other.
-use Rattle.std.proofs.Common.{◌≡◌, ◌⊎◌, ⊎_elim, ℕ, ◌+◌, ◌≤◌, ◌<◌, Bool, true, false, cond, List, [], ◌∷◌, ◌++◌, length, drop, take, get_or, Option, Some, None, refl, sym, ap, subst, ◌∙◌, arith, append_assoc, append-nil}
+use Rattle.std.proofs.Common.{◌≡◌, ⊎_elim, ℕ, ◌+◌, ◌≤◌, ◌<◌, Bool, true, false, List, [], ◌∷◌, ◌++◌, length, drop, take, get_or, refl, sym, ap, subst, ◌∙◌, arith, append_assoc, append-nil}
 use Rattle.std.proofs.lemmas.Bool.{cases_lt}
 use Rattle.std.proofs.lemmas.List.{drop_at, take_more}
 use Rattle.ct_vectors.specs.Vectors.{total}
@@ -7,12 +7,12 @@ use Rattle.ct_instance.specs.Instance.{Problem, IsInstance, start_of}
 use Rattle.ct_instance.specs.Answer.{answer_of}
 use Rattle.ct_instance.specs.TestSet.{test_list}
 use Rattle.ct_instance.specs.Walk.{IsWalk}
-use Rattle.ct_instance.specs.Versions.{Level, Covers, upto, level_of}
-use Rattle.ct_instance.specs.Reach.{first_version_from, full_grade_up_to}
+use Rattle.ct_instance.specs.Versions.{Covers, upto, level_of}
+use Rattle.ct_instance.specs.Reach.{first_version_from}
 use Rattle.ct_input.specs.declared.script.Request.{Request}
 use Rattle.ct_input.specs.declared.script.Request.TheVariants.{Ask, Solve}
 use Rattle.ct_version.specs.declared.answers.Answered.{Answered}
-use Rattle.ct_version.specs.Editions.{Edition, IsEdition}
+use Rattle.ct_version.specs.Editions.{Edition}
 use Rattle.ct_version.specs.Answers.{IsNotYet, IsAnswered}
 use Rattle.ct_version.specs.Desks.{Place, IsOfPlace, raised, Extends}
 use Rattle.ct_levels.proofs.Levels.{levels_rise}
@@ -20,8 +20,8 @@ use Rattle.ct_levels.proofs.Covering.{first_version_is}
 use Rattle.ct_levels.proofs.Reach.{reach_when_full, reach_within}
 use Rattle.ct_session.specs.declared.lines.Line.{Line}
 use Rattle.ct_session.specs.declared.lines.Line.TheVariants.{NotYet as NotYetLine, Full as FullLine}
-use Rattle.ct_session.specs.Lines.{IsAnsweredLine, IsAskLine, IsSolveLine, IsFullOrAnswered}
-use Rattle.ct_session.specs.Sessions.{newest, IsCalm, Rises, IsRepinned, IsOpenTo, IsFullAt}
+use Rattle.ct_session.specs.Lines.{IsAnsweredLine, IsAskLine, IsFullOrAnswered}
+use Rattle.ct_session.specs.Sessions.{IsCalm, Rises, IsRepinned, IsOpenTo, IsFullAt}
 use Rattle.ct_session.specs.Shown.{version_at, line_of, HasReached, AskStep, SolveStep, AreShown, nothing, asked, solved}
 
 -- ---- versions of a place

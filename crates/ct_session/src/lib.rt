@@ -5,6 +5,7 @@
 //! script are its `Line`s.
 #![tactic(auto)]
 
+pub mod laws;
 mod lines;
 mod scripts;
 mod sessions;

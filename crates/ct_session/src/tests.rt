@@ -8,10 +8,11 @@ use ct_input::Request;
 use ct_instance::Instance;
 use ct_point::Seq;
 use ct_version::{
-    Answer, AnswerKind, AskStop, Desk, Finished, Helped, NoGate, NotYet, Pin, Stop, Version,
+    Answer, AnswerKind, AskStop, Desk, Finished, Gate, Helped, NotYet, Pin, Stop, Version,
 };
 use ct_walk::Moves;
 use std::alloc::Global;
+use std::cell::Cell;
 use std::process::Abort;
 use std::sync::{Arc, Wait};
 
@@ -117,6 +118,21 @@ fn a_solve_that_is_covered_needs_no_help(rt: HostRuntime) {
     assert!(rt; session.pinned() == 0);
 }
 
+// A gate that counts its calls, and stops the program where one comes by another or out of turn.
+#[derive(Drop)]
+struct Counted<'a, R> {
+    rt: &'a R,
+    turns: Cell<u64>,
+}
+
+impl<'a, R: Abort> Gate for Counted<'a, R> {
+    fn before<W: Wait>(&self, _: &W, who: u32, turn: u64) {
+        let turns = self.turns.get();
+        assert!(self.rt; who == 7 && turn == turns && turn < 3);
+        self.turns.set(turns + 1);
+    }
+}
+
 #[test]
 fn a_script_has_a_line_for_each_request_and_walks_where_they_are_asked_for(rt: HostRuntime) {
     let alloc = rt.alloc();
@@ -127,9 +143,14 @@ fn a_script_has_a_line_for_each_request_and_walks_where_they_are_asked_for(rt: H
             Request::Ask(right(&rt, alloc, 3)),
             Request::Solve(right(&rt, alloc, 0)),
         ];
+        let gate = Counted {
+            rt: &rt,
+            turns: Cell::new(0),
+        };
         let lines = session
-            .run_script(&rt, alloc, &NoGate, 1, &script, walks)
+            .run_script(&rt, alloc, &gate, 7, &script, walks)
             .expect(&rt, "room");
+        assert!(rt; gate.turns.get() == 3);
         match lines.as_slice() {
             [
                 Line::Answered {

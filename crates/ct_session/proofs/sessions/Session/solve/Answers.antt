@@ -2,7 +2,6 @@ use Rattle.std.proofs.Common.{rules, ◌≡◌, ◌≤◌, ℕ, Result, Err, IfE
 use Rattle.std.specs.Arc.{arc_value}
 use Rattle.ct_vectors.specs.declared.limits.TheConstants.{GRADE_LIMIT}
 use Rattle.ct_vectors.specs.Vectors.{total}
-use Rattle.ct_instance.specs.Instance.{IsRight}
 use Rattle.ct_version.specs.Editions.{IsEdition}
 use Rattle.ct_version.specs.declared.answers.Answered.{Answered}
 use Rattle.ct_session.specs.declared.stops.SolveStop.{SolveStop}

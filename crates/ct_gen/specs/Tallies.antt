@@ -1,7 +1,7 @@
 -- What the lines of a report add up to.
 use Rattle.std.specs.Prelude.{ℕ, ℤ, pos, ◌+ℤ◌, ◌+◌, ◌*◌, ◌≤◌, nat_abs, Bool, true, false, List, [], ◌∷◌, length, count_by}
 use Rattle.std.specs.List.{flat_map}
-use Rattle.ct_vectors.specs.declared.limits.TheConstants.{COST_LIMIT, JOB_GRADE_LIMIT}
+use Rattle.ct_vectors.specs.declared.limits.TheConstants.{COLUMN_LIMIT, COST_LIMIT, JOB_GRADE_LIMIT}
 use Rattle.ct_version.specs.declared.answers.Answer.TheVariants.{Optimum, Infeasible}
 use Rattle.ct_version.specs.declared.finished.Finished.{Finished}
 use Rattle.ct_session.specs.declared.lines.Line.{Line}
@@ -65,9 +65,9 @@ summary_of number tally moves level = record {
   level = level;
 }
 
--- a cost as large as a point within the limit of grades can have
+-- no more than a point can cost whose coordinates are within the limit of what may come up
 abbrev pub HasCost : Line → Type 0
-HasCost line = nat_abs (cost_of line) ≤ COST_LIMIT * JOB_GRADE_LIMIT
+HasCost line = nat_abs (cost_of line) ≤ COLUMN_LIMIT * (COST_LIMIT * JOB_GRADE_LIMIT)
 
 -- two tallies together
 abbrev pub plus : Tally → Tally → Tally
@@ -84,4 +84,4 @@ pub record IsTally (t : Tally) : Type 0 where
   pub optimum : t.optimum ≤ t.requests
   pub infeasible : t.infeasible ≤ t.requests
   pub full : t.full ≤ t.requests
-  pub cost : nat_abs t.cost ≤ t.requests * (COST_LIMIT * JOB_GRADE_LIMIT)
+  pub cost : nat_abs t.cost ≤ t.requests * (COLUMN_LIMIT * (COST_LIMIT * JOB_GRADE_LIMIT))

@@ -29,6 +29,7 @@ use Rattle.ct_legal.specs.Cases.{Case, sum_of, case_reach}
 use Rattle.ct_legal.specs.Scripts.{as_solve, phase_with_solves, solved_sum, greatest, grade_after}
 use Rattle.ct_legal.specs.Legal.{low_after, AreLegalLines, AreLegalSessions, IsLevelShown, AreLegalPhases}
 use Rattle.ct_answer.specs.declared.options.Options.{Options}
+use Rattle.ct_answer.specs.Extents.{grade_upto}
 use Rattle.ct_answer.specs.Told.{case_at, AreToldLines, AreToldSessions, IsToldPhase, sums_of, sums_in}
 use Rattle.ct_answer.proofs.Pairing.{one_more}
 
@@ -87,23 +88,18 @@ grade_told p o grade phase = ap (λ ns. max grade (max phase.target (greatest ns
 
 -- ---- phases
 
--- the grade that is worked for up to the end of some phases
-abbrev pub grade_upto : Case → ℕ → List Phase → ℕ
-grade_upto c grade [] = grade
-grade_upto c grade (phase ∷ phases) = grade_upto c (grade_after c grade phase) phases
-
 pub grade_pushed : (c : Case) (grade : ℕ) (phases : List Phase) (phase : Phase) → grade_upto c grade (phases ++ phase ∷ []) ≡ grade_after c (grade_upto c grade phases) phase
-pub grade_pushed c grade [] phase = refl
-pub grade_pushed c grade (first ∷ phases) phase = grade_pushed c (grade_after c grade first) phases phase
+grade_pushed c grade [] phase = refl
+grade_pushed c grade (first ∷ phases) phase = grade_pushed c (grade_after c grade first) phases phase
 
 pub phases_pushed : (c : Case) (grade : ℕ) (phases : List Phase) (reports : List PhaseReport) (phase : Phase) (report : PhaseReport) → AreLegalPhases c grade phases reports →
     AreLegalSessions c (max c.opened (grade_upto c grade phases)) phase.sessions report.sessions →
     IsLevelShown c.levels (case_reach c (grade_after c (grade_upto c grade phases) phase)) report.level →
     AreLegalPhases c grade (phases ++ phase ∷ []) (reports ++ report ∷ [])
-pub phases_pushed c grade [] [] phase report legal sessions level = (sessions, level, tt)
-pub phases_pushed c grade [] (r ∷ reports) phase report legal sessions level = absurd legal
-pub phases_pushed c grade (first ∷ phases) [] phase report legal sessions level = absurd legal
-pub phases_pushed c grade (first ∷ phases) (r ∷ reports) phase report legal sessions level =
+phases_pushed c grade [] [] phase report legal sessions level = (sessions, level, tt)
+phases_pushed c grade [] (r ∷ reports) phase report legal sessions level = absurd legal
+phases_pushed c grade (first ∷ phases) [] phase report legal sessions level = absurd legal
+phases_pushed c grade (first ∷ phases) (r ∷ reports) phase report legal sessions level =
     (legal.0, legal.1, phases_pushed c (grade_after c grade first) phases reports phase report legal.2 sessions level)
 
 -- the phases up to the k-th, with their grade

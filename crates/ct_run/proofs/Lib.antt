@@ -4,5 +4,5 @@ pub mod Runs
 pub mod Endings
 pub mod TooLong
 pub mod LedgerFiles
-pub mod Completed
+pub mod Summaries
 mod Worked

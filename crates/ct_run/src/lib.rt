@@ -12,8 +12,10 @@ mod checking;
 mod ending;
 #[cfg(test)]
 mod ledger_tests;
+mod making;
 mod reading;
 mod run;
+mod sharing;
 mod status;
 mod stop;
 #[cfg(test)]

@@ -17,7 +17,7 @@ abbrev pub opened : Problem → ℕ → BookSeen
 opened i limit = record { instance = i; limit = limit; passes = 1; state = just_opened i 0; journal = [] }
 
 module _ (i : Problem) (limit g : ℕ) (c : BookSeen) (h : Helped) (done : IsCompleted (opened i limit) g c h) where
-  first_completed : IsFirstVersion i g (c.state).number
+  pub first_completed : IsFirstVersion i g (c.state).number
   first_completed = by_test (covers (level_of i 0) g) refl
     where
       by_test : (b : Bool) → covers (level_of i 0) g ≡ b → IsFirstVersion i g (c.state).number

@@ -16,6 +16,8 @@ const ONE: &str = "sessions 1 phase 0 session solve 15 end";
 
 const OVER: &str = "sessions 1\nphase 0\nsession\nsolve 1000000000001\nend\n";
 
+const OTHER_SIZE: &str = "ledger 1\nsize 2 1\ngrade 0\nend\n";
+
 const REPORT: &str = "report 1\nphase 1\nsession 1\noptimum 9 at 0 3\nend\n";
 
 const USAGE: &str = "usage: ct COMMAND ARGUMENTS\n";
@@ -82,11 +84,17 @@ impl<'a> Print for Wants<'a> {
 // Each run on real files: the arguments after the program's name, what the output takes, and the exit code.
 #[test]
 fn each_status_of_a_run_on_files(rt: HostRuntime) -> Result<(), Fail> {
-    for (path, text) in [("K", K), ("cut", CUT), ("S", ONE), ("over", OVER)] {
+    for (path, text) in [
+        ("K", K),
+        ("cut", CUT),
+        ("S", ONE),
+        ("over", OVER),
+        ("L", OTHER_SIZE),
+    ] {
         fs::write(&rt, path, text)?;
     }
     let alloc = rt.alloc();
-    let runs: [(&[&[u8]], &str, u8); 9] = [
+    let runs: [(&[&[u8]], &str, u8); 13] = [
         (&[b"ct", b"answer", b"K", b"S"], REPORT, 0),
         (&[b"ct"], USAGE, 2),
         (&[b"ct", b"answer", b"K"], USAGE, 2),
@@ -104,6 +112,18 @@ fn each_status_of_a_run_on_files(rt: HostRuntime) -> Result<(), Fail> {
         ),
         (&[b"ct", b"answer", b"K", b"none"], REPORT, 5),
         (&[b"ct", b"answer", b"K", b"S"], USAGE, 6),
+        (
+            &[b"ct", b"certify", b"K", b"0"],
+            "ledger 1\nsize 1 2\ngrade 0\nend\n",
+            0,
+        ),
+        (&[b"ct", b"check", b"K", b"S"], "bad ledger: line 1\n", 8),
+        (&[b"ct", b"check", b"K", b"L"], "refused: line 2 size\n", 9),
+        (
+            &[b"ct", b"certify", b"K", b"6", b"--moves", b"2"],
+            "full 6\n",
+            10,
+        ),
     ];
     for (row, (words, text, code)) in runs.into_iter().enumerate() {
         let output = Wants {
@@ -116,7 +136,7 @@ fn each_status_of_a_run_on_files(rt: HostRuntime) -> Result<(), Fail> {
             "row {row}"
         );
     }
-    for path in ["K", "cut", "S", "over"] {
+    for path in ["K", "cut", "S", "over", "L"] {
         fs::remove_file(&rt, path)?;
     }
     Ok(())

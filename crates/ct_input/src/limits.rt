@@ -6,6 +6,9 @@ pub const INSTANCE_FILE_LIMIT: usize = 1_048_576;
 /// The most bytes of a session file.
 pub const SESSION_FILE_LIMIT: usize = 16_777_216;
 
+/// The most bytes of a ledger file.
+pub const LEDGER_FILE_LIMIT: usize = 67_108_864;
+
 /// The most phases of a session file.
 pub const PHASE_LIMIT: usize = 64;
 

@@ -1,20 +1,26 @@
 -- What a run up to an ending or a stop says at the top call.
-use Rattle.std.proofs.Common.{◌≡◌, ℕ, ◌≤◌, true, List, [], Option, Result, Ok, Err, inl, inr, sym, ap, arith}
+use Rattle.std.proofs.Common.{◌≡◌, ℕ, ◌≤◌, true, false, true≢false, List, [], Option, Result, Ok, Err, inl, inr, sym, ap, ◌∙◌, arith}
 use Rattle.std.specs.Prelude.{⊤}
 use Rattle.std.specs.Io.KnownBytes.{Appends}
 use Rattle.ct_outside.specs.Faults.{Rose}
 use Rattle.ct_outside.specs.Shelf.{Told}
 use Rattle.ct_outside.specs.Sink.{AppendsFront}
+use Rattle.ct_instance.specs.Instance.{Problem}
+use Rattle.ct_ledger.specs.Parts.{LedgerParts}
+use Rattle.ct_checker.specs.declared.verdicts.Verdict.{Verdict}
+use Rattle.ct_checker.specs.declared.verdicts.Verdict.TheVariants.{Accepted, Refused}
+use Rattle.ct_checker.specs.Checking.{verdict_of}
+use Rattle.ct_run.specs.Checked.{IsVerdictEnding, IsChecked, over, faulty, weighed}
 use Rattle.ct_run.specs.declared.ending.Ending.{Ending}
 use Rattle.ct_run.specs.declared.status.Status.{Status}
 use Rattle.ct_run.specs.declared.status.Status.TheVariants as statuses
 use Rattle.ct_run.specs.declared.stop.Stop.{Stop}
 use Rattle.ct_run.specs.declared.stop.Stop.TheVariants.{ReadFault, Memory}
-use Rattle.ct_run.specs.Outcome.{Wrote, WroteFront, is_stop, IsUnlessStopped, IsUnlessMemory}
+use Rattle.ct_run.specs.Outcome.{RunOutcome, usage, bad_instance, bad_sessions, answered, certified, full, checked, IsEnding, Wrote, WroteFront, is_stop, IsUnlessStopped, IsUnlessMemory}
 use Rattle.ct_run.specs.Plan.{Plan}
 use Rattle.ct_run.specs.Running.{Ends, WouldEnd, ComesTo, Runs, HasReadFault, NoReadFault}
 use Rattle.ct_run.specs.Stopping.{Fits, StoppedBy, EndedBy, Ran, stop_status}
-use Rattle.ct_run.proofs.Runs.{ends-map, would_end, would_end-all, runs-ends, runs-cause, runs-others, runs-map}
+use Rattle.ct_run.proofs.Runs.{ends-map, ends-some, would_end, would_end-all, runs-ends, runs-cause, runs-others, runs-map}
 
 -- a later count rose over more calls, too
 pub stopped-along : (result : Result Ending Stop) (before mid now : ℕ) → before ≤ mid → StoppedBy result mid now → StoppedBy result before now
@@ -22,23 +28,47 @@ stopped-along (Ok ending) before mid now up h = h
 stopped-along (Err ReadFault) before mid now up h = omega arith
 stopped-along (Err Memory) before mid now up h = tt
 
+verdict_unstopped : (i : Problem) (l : LedgerParts) (v : Verdict) (status : Status) (text : List ℕ) → IsVerdictEnding i l v status text → is_stop status ≡ false
+verdict_unstopped i l (Accepted grade moves) status text h = ap is_stop h.1.0
+verdict_unstopped i l (Refused line reason) status text h = ap is_stop h.1.0
+
+checked_unstopped : (i : Problem) (bytes : List ℕ) (status : Status) (text : List ℕ) → IsChecked i bytes status text → is_stop status ≡ false
+checked_unstopped i bytes status text (over long own same) = ap is_stop own
+checked_unstopped i bytes status text (faulty line within fault own same) = ap is_stop own
+checked_unstopped i bytes status text (weighed l within is same verdict) = verdict_unstopped i l (verdict_of i l) status text verdict
+
+-- no outcome ends with the status of a stop
+ending_unstopped : (outcome : RunOutcome) (status : Status) (text : List ℕ) → IsEnding outcome status text → is_stop status ≡ false
+ending_unstopped usage status text h = ap is_stop h.0
+ending_unstopped (bad_instance fault) status text h = ap is_stop h.0
+ending_unstopped (bad_sessions fault) status text h = ap is_stop h.0
+ending_unstopped (answered c script) status text h = ap is_stop h.0
+ending_unstopped (certified i grade) status text h = ap is_stop h.0
+ending_unstopped (full grade) status text h = ap is_stop h.0
+ending_unstopped (checked i bytes) status text h = checked_unstopped i bytes status text h
+
 module _ (plan : Plan) (told : List ℕ → Told) (before now : List ℕ → ℕ) where
   came_to : (ending : Ending) → Ran plan told before now (Ok ending) → Ends plan told (λ outcome. Fits outcome ending)
   came_to ending ran = runs-ends told before now (EndedBy (Ok ending)) (λ name. StoppedBy (Ok ending) (before name) (now name)) [] plan (λ name h. h) ran
 
+  pub not_stopped : (ending : Ending) (status : Status) → Ran plan told before now (Ok ending) → is_stop status ≡ true → ending.status ≡ status → ⊥
+  not_stopped ending status ran stops same =
+      let own = ends-some plan told (λ outcome. Fits outcome ending) (is_stop ending.status ≡ false) (λ outcome fits. ending_unstopped outcome ending.status ending.text fits) (came_to ending ran) in
+      true≢false (sym stops ∙ (ap is_stop (sym same) ∙ own))
+
   pub whole_text : (ending : Ending) (old new : Option (List ℕ)) → Ran plan told before now (Ok ending) → Appends old new ending.text → Ends plan told (Wrote ending.status old new)
   whole_text ending old new ran written =
-      ends-map plan told (λ outcome. Fits outcome ending) (Wrote ending.status old new) (λ outcome fits. (sym fits.0, (ending.text, (fits.1, written)))) (came_to ending ran)
+      ends-map plan told (λ outcome. Fits outcome ending) (Wrote ending.status old new) (λ outcome fits. (ending.text, (fits, written))) (came_to ending ran)
 
   pub text_front : (ending : Ending) (old new : Option (List ℕ)) → Ran plan told before now (Ok ending) → AppendsFront old new ending.text → Ends plan told (WroteFront old new)
   text_front ending old new ran written =
-      ends-map plan told (λ outcome. Fits outcome ending) (WroteFront old new) (λ outcome fits. (ending.text, (fits.1, written))) (came_to ending ran)
+      ends-map plan told (λ outcome. Fits outcome ending) (WroteFront old new) (λ outcome fits. (ending.status, (ending.text, (fits, written)))) (came_to ending ran)
 
   pub exact_status : (ending : Ending) → Ran plan told before now (Ok ending) → WouldEnd plan told (IsUnlessStopped ending.status)
-  exact_status ending ran = would_end plan told (λ outcome. Fits outcome ending) (IsUnlessStopped ending.status) (λ outcome fits own. sym fits.0) (came_to ending ran)
+  exact_status ending ran = would_end plan told (λ outcome. Fits outcome ending) (IsUnlessStopped ending.status) (λ outcome fits own. (ending.text, fits)) (came_to ending ran)
 
   pub complete_status : (ending : Ending) → Ran plan told before now (Ok ending) → WouldEnd plan told (IsUnlessMemory ending.status)
-  complete_status ending ran = would_end plan told (λ outcome. Fits outcome ending) (IsUnlessMemory ending.status) (λ outcome fits. inl (sym fits.0)) (came_to ending ran)
+  complete_status ending ran = would_end plan told (λ outcome. Fits outcome ending) (IsUnlessMemory ending.status) (λ outcome fits. inl (ending.text, fits)) (came_to ending ran)
 
   pub any_status : (status : Status) → is_stop status ≡ true → WouldEnd plan told (IsUnlessStopped status)
   any_status status stops = would_end-all plan told (IsUnlessStopped status) (λ outcome own. absurd (cc))

@@ -1,4 +1,8 @@
+pub mod Within
+pub mod Told
 pub mod Runs
 pub mod Endings
 pub mod TooLong
+pub mod LedgerFiles
+pub mod Completed
 mod Worked

@@ -36,7 +36,17 @@ HasBytes-some untold P Q h = (h.1.0, ((h.0, h.1.1.0), h.1.1.1))
 HasBytes-some absent P Q h = absurd h
 HasBytes-some (holds bytes) P Q h = h
 
+pub HasBytes-out : (told : Told) (P : List ℕ → Type 0) (G : Type 0) → ((bytes : List ℕ) → P bytes → G) → HasBytes told P → G
+HasBytes-out untold P G f h = f h.0 h.1
+HasBytes-out absent P G f h = absurd h
+HasBytes-out (holds bytes) P G f h = f bytes h
+
 -- ---- outcomes
+
+-- what follows from each outcome that the plan may have come to
+pub ends-some : (plan : Plan) (told : List ℕ → Told) (P : RunOutcome → Type 0) (G : Type 0) → ((outcome : RunOutcome) → P outcome → G) → Ends plan told P → G
+ends-some (ends outcome) told P G f h = f outcome h
+ends-some (asks name go) told P G f h = HasBytes-out (told name) (λ bytes. Ends (go bytes) told P) G (λ bytes. ends-some (go bytes) told P G f) h
 
 pub would_end : (plan : Plan) (told : List ℕ → Told) (P Q : RunOutcome → Type 0) → ((outcome : RunOutcome) → P outcome → Q outcome) → Ends plan told P → WouldEnd plan told Q
 would_end (ends outcome) told P Q f h = f outcome h
@@ -84,6 +94,12 @@ module _ (told : List ℕ → Told) (before now : List ℕ → ℕ) (Ended : Run
       HasBytes-use (told asked) (λ bytes. RunsAfter told before now Ended Stopped (asked ∷ seen) (go bytes)) (λ bytes. ComesTo (go bytes) told name) (now name ≡ before name)
       (λ bytes r here. runs-others (asked ∷ seen) (go bytes) name r (⊎_elim (λ same. other (inl same)) apart) here)
       more (λ later. other (inr later))
+
+-- a run that stopped before it fetched anything
+pub runs-none : (told : List ℕ → Told) (before : List ℕ → ℕ) (E : RunOutcome → Type 0) (S : List ℕ → Type 0) (plan : Plan) →
+    ((outcome : RunOutcome) → E outcome) → ((name : List ℕ) → S name) → Runs told before before E S plan
+runs-none told before E S (ends outcome) f g = (λ name out. refl, f outcome)
+runs-none told before E S (asks name go) f g = inl (λ other out. refl, g name)
 
 -- a weaker fact of the outcome and of the stop
 pub runs-map : (told : List ℕ → Told) (before now : List ℕ → ℕ) (E F : RunOutcome → Type 0) (S R : List ℕ → Type 0) (seen : List (List ℕ)) (plan : Plan) →

@@ -1,55 +1,59 @@
--- The definitions on worked examples, by computation: coins of 3 and 5 at cost 2 and 3.
-use Rattle.std.proofs.Common.{pos, negsuc, ◌≡◌, ℕ, List, ◌++◌, [], ◌∷◌, Option, None, Some, Result, Ok, Err, refl, codes}
+-- The definitions on worked examples, by computation.
+use Rattle.std.proofs.Common.{pos, negsuc, ◌≡◌, ℕ, Bool, true, false, List, ◌++◌, [], ◌∷◌, Option, None, Some, Result, Ok, Err, refl, codes}
 use Rattle.std.specs.Fmt.{digits}
 use Rattle.ct_instance.specs.Instance.{Problem}
-use Rattle.ct_instance.specs.Fiber.{fiber_of, least_of}
-use Rattle.ct_instance.specs.Answer.{optimum}
 use Rattle.ct_input.specs.declared.fault.Fault.TheVariants.{TooLong, Text}
 use Rattle.ct_input.specs.declared.fault.TextReason.TheVariants.{ZeroColumn}
-use Rattle.ct_input.specs.declared.script.Request.TheVariants.{Ask, Solve}
 use Rattle.ct_input.specs.declared.script.Script.{Script}
-use Rattle.ct_run.specs.Report.{newline, line_text, report_text, answers_of}
+use Rattle.ct_legal.specs.Cases.{Case}
+use Rattle.ct_run.specs.Texts.{newline}
 use Rattle.ct_outside.specs.Shelf.{Told, untold, absent, holds}
 use Rattle.ct_input.specs.declared.fault.Fault.{Fault}
-use Rattle.ct_input.specs.Files.{instance_file, session_file}
-use Rattle.ct_run.specs.declared.status.Status.TheVariants.{Usage}
-use Rattle.ct_run.specs.Words.{Command, answer, command_of}
-use Rattle.ct_run.specs.Outcome.{bad_instance, bad_sessions, answered, IsText, Wrote}
-use Rattle.ct_run.specs.Plan.{ends, by_value, sessions_plan, plan_of}
+use Rattle.ct_run.specs.Forms.{instance_file, session_file}
+use Rattle.ct_run.specs.declared.status.Status.TheVariants.{Done, Usage, BadInstance, BadSessions, BadLedger, LedgerRefused, Full}
+use Rattle.ct_text.specs.Numbers.{natural_of}
+use Rattle.ct_words.specs.Parts.{parts_of}
+use Rattle.ct_words.specs.Table.{commands}
+use Rattle.ct_words.specs.Said.{places_of, said_of}
+use Rattle.ct_run.proofs.Told.{no_command}
+use Rattle.ct_run.specs.Words.{Command, answer, certify, check, command_of}
+use Rattle.ct_instance.specs.Reach.{full_grade_up_to}
+use Rattle.ct_ledger.specs.Parts.{LedgerParts}
+use Rattle.ct_checker.specs.declared.verdicts.Verdict.{Verdict}
+use Rattle.ct_checker.specs.declared.verdicts.Verdict.TheVariants.{Accepted, Refused}
+use Rattle.ct_checker.specs.Checking.{verdict_of}
+use Rattle.ct_run.specs.Checked.{IsVerdictEnding, IsChecked, over, faulty, weighed}
+use Rattle.ct_run.specs.Outcome.{bad_instance, bad_sessions, answered, IsEnding, Wrote}
+use Rattle.ct_run.specs.Plan.{ends, by_value, case_of, ledger_or_full, work_plan, instance_name, plan_of}
 use Rattle.ct_run.specs.Running.{HasBytes, Ends}
 
-abbrev coins : Problem
-coins = record { rows = 1; columns = (3 ∷ []) ∷ (5 ∷ []) ∷ []; cost_rows = (pos 2 ∷ pos 3 ∷ []) ∷ [] }
-
-abbrev one_session : Script
-one_session = record { phases = record { target = 0; sessions = (Solve (15 ∷ []) ∷ Ask (7 ∷ []) ∷ []) ∷ [] } ∷ [] }
-
-line_of_gain : line_text (optimum (2 ∷ 0 ∷ []) (negsuc 1 ∷ [])) ≡ codes "optimum -2 at 2 0" ++ newline
+zero_column_line : IsEnding (bad_instance (Text 5 3 ZeroColumn)) BadInstance (codes "bad instance: line 5 column 3: zero column" ++ newline)
 unfolding digits
-line_of_gain = refl
+zero_column_line = (refl, refl)
 
-two_answers : report_text (answers_of coins one_session) ≡
-    codes "report 1" ++ newline ++ codes "phase 1" ++ newline ++ codes "session 1" ++ newline ++ codes "optimum 9 at 0 3" ++ newline ++ codes "infeasible short 1" ++ newline ++ codes "end" ++ newline
-unfolding least_of fiber_of digits
-two_answers = refl
+too_long_line : IsEnding (bad_instance TooLong) BadInstance (codes "bad instance: too long" ++ newline)
+too_long_line = (refl, refl)
 
-no_phase : report_text (answers_of coins (record { phases = [] })) ≡ codes "report 1" ++ newline ++ codes "end" ++ newline
-no_phase = refl
+-- ---- words
 
-zero_column_line : IsText (bad_instance (Text 5 3 ZeroColumn)) (codes "bad instance: line 5 column 3: zero column" ++ newline)
-unfolding digits
-zero_column_line = refl
-
-too_long_line : IsText (bad_instance TooLong) (codes "bad instance: too long" ++ newline)
-too_long_line = refl
-
-three_words : command_of (codes "answer" ∷ codes "-" ∷ codes "S" ∷ []) ≡ Some (answer (codes "-") (codes "S"))
+three_words : command_of (codes "answer" ∷ codes "-" ∷ codes "S" ∷ []) ≡ Some (answer (codes "-") (codes "S") false false 4096)
+unfolding parts_of places_of
 three_words = refl
 
-an_option : command_of (codes "answer" ∷ codes "K" ∷ codes "-S" ∷ []) ≡ None
-an_option = refl
+options_of_answer : command_of (codes "answer" ∷ codes "--moves=2" ∷ codes "--" ∷ codes "K" ∷ codes "-S" ∷ []) ≡ Some (answer (codes "K") (codes "-S") false false 2)
+unfolding parts_of places_of natural_of
+options_of_answer = refl
 
-four_words : command_of (codes "answer" ∷ codes "K" ∷ codes "S" ∷ codes "S" ∷ []) ≡ None
+a_grade : command_of (codes "certify" ∷ codes "K" ∷ codes "15" ∷ []) ≡ Some (certify (codes "K") 15 4096)
+unfolding parts_of places_of natural_of
+a_grade = refl
+
+a_dash : command_of (codes "answer" ∷ codes "K" ∷ codes "-S" ∷ []) ≡ None
+unfolding parts_of places_of
+a_dash = refl
+
+four_words : command_of (codes "check" ∷ codes "K" ∷ codes "L" ∷ codes "L" ∷ []) ≡ None
+unfolding parts_of places_of
 four_words = refl
 
 -- ---- the status Usage is that of words that are no command, and of no others
@@ -59,18 +63,39 @@ of_bytes untold P G f h = f h.0 h.1
 of_bytes absent P G f h = absurd h
 of_bytes (holds bytes) P G f h = f bytes h
 
-no_usage_by_sessions : (read : Result Script Fault) (i : Problem) (told : List ℕ → Told) (old new : Option (List ℕ)) →
-    Ends (by_value bad_sessions (λ script. ends (answered i script)) read) told (Wrote Usage old new) → ⊥
-no_usage_by_sessions (Ok script) i told old new wrote = cc
-no_usage_by_sessions (Err fault) i told old new wrote = cc
+no_usage_by_sessions : (read : Result Script Fault) (c : Case) (told : List ℕ → Told) (old new : Option (List ℕ)) →
+    Ends (by_value bad_sessions (λ script. ends (answered c script)) read) told (Wrote Usage old new) → ⊥
+no_usage_by_sessions (Ok script) c told old new wrote = let no : Usage ≡ Done = wrote.1.0.0 in cc
+no_usage_by_sessions (Err fault) c told old new wrote = let no : Usage ≡ BadSessions = wrote.1.0.0 in cc
 
-no_usage : (read : Result Problem Fault) (sessions : List ℕ) (told : List ℕ → Told) (old new : Option (List ℕ)) →
-    Ends (by_value bad_instance (sessions_plan sessions) read) told (Wrote Usage old new) → ⊥
-no_usage (Ok i) sessions told old new wrote =
-    of_bytes (told sessions) _ ⊥ (λ bytes. no_usage_by_sessions (session_file i.rows bytes) i told old new) wrote
-no_usage (Err fault) sessions told old new wrote = cc
+no_usage_of_grade : (found : Option ℕ) (i : Problem) (grade : ℕ) (old new : Option (List ℕ)) → Wrote Usage old new (ledger_or_full i grade found) → ⊥
+no_usage_of_grade None i grade old new wrote = let no : Usage ≡ Done = wrote.1.0.0 in cc
+no_usage_of_grade (Some first) i grade old new wrote = let no : Usage ≡ Full = wrote.1.0.0 in cc
+
+no_usage_of_verdict : (v : Verdict) (i : Problem) (l : LedgerParts) (text : List ℕ) → IsVerdictEnding i l v Usage text → ⊥
+no_usage_of_verdict (Accepted grade moves) i l text h = let no : Usage ≡ Done = h.1.0 in cc
+no_usage_of_verdict (Refused line reason) i l text h = let no : Usage ≡ LedgerRefused = h.1.0 in cc
+
+no_usage_of_ledger : (i : Problem) (bytes text : List ℕ) → IsChecked i bytes Usage text → ⊥
+no_usage_of_ledger i bytes text (over long own same) = let no : Usage ≡ BadLedger = own in cc
+no_usage_of_ledger i bytes text (faulty line within fault own same) = let no : Usage ≡ BadLedger = own in cc
+no_usage_of_ledger i bytes text (weighed l within is same verdict) = no_usage_of_verdict (verdict_of i l) i l text verdict
+
+no_usage_by_work : (command : Command) (i : Problem) (told : List ℕ → Told) (old new : Option (List ℕ)) → Ends (work_plan command i) told (Wrote Usage old new) → ⊥
+no_usage_by_work (answer instance sessions walks levels moves) i told old new wrote =
+    of_bytes (told sessions) _ ⊥ (λ bytes. no_usage_by_sessions (session_file i.rows bytes) (case_of (record { limit = moves; walks = walks; levels = levels }) i) told old new) wrote
+no_usage_by_work (certify instance grade moves) i told old new wrote = no_usage_of_grade (full_grade_up_to i moves grade) i grade old new wrote
+no_usage_by_work (check instance ledger) i told old new wrote = of_bytes (told ledger) _ ⊥ (λ bytes w. no_usage_of_ledger i bytes w.0 w.1.0) wrote
+
+no_usage : (read : Result Problem Fault) (command : Command) (told : List ℕ → Told) (old new : Option (List ℕ)) →
+    Ends (by_value bad_instance (work_plan command) read) told (Wrote Usage old new) → ⊥
+no_usage (Ok i) command told old new wrote = no_usage_by_work command i told old new wrote
+no_usage (Err fault) command told old new wrote = let no : Usage ≡ BadInstance = wrote.1.0.0 in cc
 
 usage_only : (command : Option Command) (told : List ℕ → Told) (old new : Option (List ℕ)) → Ends (plan_of command) told (Wrote Usage old new) → command ≡ None
 usage_only None told old new wrote = refl
-usage_only (Some (answer instance sessions)) told old new wrote =
-    absurd (of_bytes (told instance) _ ⊥ (λ bytes. no_usage (instance_file bytes) sessions told old new) wrote)
+usage_only (Some command) told old new wrote =
+    absurd (of_bytes (told (instance_name command)) _ ⊥ (λ bytes. no_usage (instance_file bytes) command told old new) wrote)
+
+usage_words : (words : List (List ℕ)) → command_of words ≡ None → said_of commands words ≡ None
+usage_words = no_command

@@ -1,5 +1,5 @@
--- What a run comes to, the status and the texts that fit it, and what may come in its place.
-use Rattle.std.specs.Prelude.{◌≡◌, ℕ, ◌++◌, ◌⊎◌, Bool, true, false, List, Option, codes}
+-- What a run comes to, the status and the texts with which it ends, and what may come in its place.
+use Rattle.std.specs.Prelude.{◌≡◌, ℕ, ◌++◌, ◌⊎◌, Bool, true, false, List, Option, codes, decimal}
 use Rattle.std.specs.Io.KnownBytes.{Appends}
 use Rattle.ct_outside.specs.Sink.{AppendsFront}
 use Rattle.ct_instance.specs.Instance.{Problem}
@@ -7,36 +7,49 @@ use Rattle.ct_input.specs.declared.fault.Fault.{Fault}
 use Rattle.ct_input.specs.declared.script.Script.{Script}
 use Rattle.ct_input.specs.FaultText.{fault_text}
 use Rattle.ct_run.specs.declared.status.Status.{Status}
-use Rattle.ct_run.specs.declared.status.Status.TheVariants.{Done, Usage, BadInstance, BadSessions, ReadFault, WriteFault, Memory}
-use Rattle.ct_run.specs.Report.{newline, report_text, answers_of}
+use Rattle.ct_run.specs.declared.status.Status.TheVariants.{Done, Usage, BadInstance, BadSessions, ReadFault, WriteFault, Memory, Full}
+use Rattle.ct_report.specs.declared.reports.Report.{Report}
+use Rattle.ct_report.specs.ReportText.{report_text}
+use Rattle.ct_legal.specs.Cases.{Case}
+use Rattle.ct_legal.specs.Legal.{IsLegalAnswered}
+use Rattle.ct_run.specs.Texts.{newline}
+use Rattle.ct_run.specs.Certificate.{IsCertificate}
+use Rattle.ct_run.specs.Checked.{IsChecked}
 
 -- what a run comes to before it writes
 pub data RunOutcome : Type 0 where
   usage : RunOutcome
   bad_instance : Fault → RunOutcome
   bad_sessions : Fault → RunOutcome
-  answered : Problem → Script → RunOutcome
+  answered : Case → Script → RunOutcome
+  certified : Problem → ℕ → RunOutcome
+  full : ℕ → RunOutcome
+  checked : Problem → List ℕ → RunOutcome
 
-abbrev pub status_of : RunOutcome → Status
-status_of usage = Usage
-status_of (bad_instance fault) = BadInstance
-status_of (bad_sessions fault) = BadSessions
-status_of (answered i script) = Done
+-- a text of a report that is legal where each ask is taken as a solve
+abbrev pub IsReportOf : Case → Script → List ℕ → Type 0
+IsReportOf c script text = (report : Report) × (IsLegalAnswered c script report × (text ≡ report_text report))
 
--- the text is one that may be written for the outcome
-abbrev pub IsText : RunOutcome → List ℕ → Type 0
-IsText usage text = text ≡ codes "usage: ct COMMAND ARGUMENTS" ++ newline
-IsText (bad_instance fault) text = text ≡ codes "bad instance: " ++ fault_text fault ++ newline
-IsText (bad_sessions fault) text = text ≡ codes "bad sessions: " ++ fault_text fault ++ newline
-IsText (answered i script) text = text ≡ report_text (answers_of i script)
+-- the status and the text with which the outcome ends
+abbrev pub IsEnding : RunOutcome → Status → List ℕ → Type 0
+IsEnding usage status text = (status ≡ Usage) × (text ≡ codes "usage: ct COMMAND ARGUMENTS" ++ newline)
+IsEnding (bad_instance fault) status text = (status ≡ BadInstance) × (text ≡ codes "bad instance: " ++ fault_text fault ++ newline)
+IsEnding (bad_sessions fault) status text = (status ≡ BadSessions) × (text ≡ codes "bad sessions: " ++ fault_text fault ++ newline)
+IsEnding (answered c script) status text = (status ≡ Done) × IsReportOf c script text
+IsEnding (certified i grade) status text = (status ≡ Done) × IsCertificate i grade text
+IsEnding (full grade) status text = (status ≡ Full) × (text ≡ codes "full " ++ decimal grade ++ newline)
+IsEnding (checked i bytes) status text = IsChecked i bytes status text
+
+abbrev pub HasStatus : RunOutcome → Status → Type 0
+HasStatus outcome status = (text : List ℕ) × IsEnding outcome status text
 
 -- the status is the outcome's, and the whole of a text of it was appended
 abbrev pub Wrote : Status → Option (List ℕ) → Option (List ℕ) → RunOutcome → Type 0
-Wrote status old new outcome = (status_of outcome ≡ status) × ((text : List ℕ) × (IsText outcome text × Appends old new text))
+Wrote status old new outcome = (text : List ℕ) × (IsEnding outcome status text × Appends old new text)
 
 -- a front of a text of the outcome was appended
 abbrev pub WroteFront : Option (List ℕ) → Option (List ℕ) → RunOutcome → Type 0
-WroteFront old new outcome = (text : List ℕ) × (IsText outcome text × AppendsFront old new text)
+WroteFront old new outcome = (status : Status) × ((text : List ℕ) × (IsEnding outcome status text × AppendsFront old new text))
 
 -- ---- what may come in the place of the outcome
 
@@ -49,8 +62,8 @@ is_stop status = false
 
 -- the status is the outcome's, unless one of these came in its place
 abbrev pub IsUnlessStopped : Status → RunOutcome → Type 0
-IsUnlessStopped status outcome = is_stop status ≡ false → status_of outcome ≡ status
+IsUnlessStopped status outcome = is_stop status ≡ false → HasStatus outcome status
 
 -- the status is the outcome's, or memory ran out
 abbrev pub IsUnlessMemory : Status → RunOutcome → Type 0
-IsUnlessMemory status outcome = (status_of outcome ≡ status) ⊎ (status ≡ Memory)
+IsUnlessMemory status outcome = HasStatus outcome status ⊎ (status ≡ Memory)

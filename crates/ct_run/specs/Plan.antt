@@ -2,10 +2,13 @@
 use Rattle.std.specs.Prelude.{ℕ, List, Option, Some, None, Result, Ok, Err, map, string_bytes, String}
 use Rattle.std.specs.declared.alloc.Global.{Global}
 use Rattle.ct_input.specs.declared.fault.Fault.{Fault}
-use Rattle.ct_input.specs.Files.{instance_file, session_file}
+use Rattle.ct_run.specs.Forms.{instance_file, session_file}
 use Rattle.ct_instance.specs.Instance.{Problem}
-use Rattle.ct_run.specs.Words.{Command, answer, command_of}
-use Rattle.ct_run.specs.Outcome.{RunOutcome, usage, bad_instance, bad_sessions, answered}
+use Rattle.ct_instance.specs.Reach.{full_grade_up_to}
+use Rattle.ct_legal.specs.Cases.{Case, plain_case}
+use Rattle.ct_answer.specs.declared.options.Options.{Options}
+use Rattle.ct_run.specs.Words.{Command, answer, certify, check, command_of}
+use Rattle.ct_run.specs.Outcome.{RunOutcome, usage, bad_instance, bad_sessions, answered, certified, full, checked}
 
 -- it ends with an outcome, or asks for the file of a name and goes on with its bytes
 pub data Plan : Type 0 where
@@ -21,13 +24,43 @@ by_value refused go (Err fault) = ends (refused fault)
 abbrev pub reads : {A : Type 0} → List ℕ → (List ℕ → Result A Fault) → (Fault → RunOutcome) → (A → Plan) → Plan
 reads name value_of refused go = asks name (λ bytes. by_value refused go (value_of bytes))
 
--- answers the requests of a session file of an instance
-abbrev pub sessions_plan : List ℕ → Problem → Plan
-sessions_plan sessions i = reads sessions (session_file i.rows) bad_sessions (λ script. ends (answered i script))
+-- answers the requests of a session file
+abbrev pub sessions_plan : List ℕ → Case → Plan
+sessions_plan sessions c = reads sessions (session_file (c.instance).rows) bad_sessions (λ script. ends (answered c script))
+
+-- the case of an instance with the options of `answer`
+abbrev pub case_of : Options → Problem → Case
+case_of o i = plain_case i o.limit o.walks o.levels
+
+-- the ledger of a grade, or the full grade where that is at most the grade
+abbrev pub ledger_or_full : Problem → ℕ → Option ℕ → RunOutcome
+ledger_or_full i grade None = certified i grade
+ledger_or_full i grade (Some first) = full first
+
+abbrev pub certify_plan : ℕ → ℕ → Problem → Plan
+certify_plan grade limit i = ends (ledger_or_full i grade (full_grade_up_to i limit grade))
+
+-- checks a ledger file
+abbrev pub check_plan : List ℕ → Problem → Plan
+check_plan ledger i = asks ledger (λ bytes. ends (checked i bytes))
+
+-- what a command does with its instance
+abbrev pub work_plan : Command → Problem → Plan
+work_plan (answer instance sessions walks levels moves) i = sessions_plan sessions (case_of (record { limit = moves; walks = walks; levels = levels }) i)
+work_plan (certify instance grade moves) i = certify_plan grade moves i
+work_plan (check instance ledger) i = check_plan ledger i
+
+abbrev pub instance_name : Command → List ℕ
+instance_name (answer instance sessions walks levels moves) = instance
+instance_name (certify instance grade moves) = instance
+instance_name (check instance ledger) = instance
+
+abbrev pub command_plan : Command → Plan
+command_plan command = reads (instance_name command) instance_file bad_instance (work_plan command)
 
 abbrev pub plan_of : Option Command → Plan
 plan_of None = ends usage
-plan_of (Some (answer instance sessions)) = reads instance instance_file bad_instance (sessions_plan sessions)
+plan_of (Some command) = command_plan command
 
 -- the plan of the words after the program's name
 abbrev pub plan_in : List (String Global) → Plan

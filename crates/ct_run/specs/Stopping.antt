@@ -7,7 +7,7 @@ use Rattle.ct_run.specs.declared.status.Status.TheVariants as statuses
 use Rattle.ct_run.specs.declared.stop.Stop.{Stop}
 use Rattle.ct_run.specs.declared.stop.Stop.TheVariants.{ReadFault, Memory}
 use Rattle.ct_run.specs.declared.ending.Ending.{Ending}
-use Rattle.ct_run.specs.Outcome.{RunOutcome, status_of, IsText}
+use Rattle.ct_run.specs.Outcome.{RunOutcome, IsEnding}
 use Rattle.ct_run.specs.Plan.{Plan}
 use Rattle.ct_run.specs.Running.{Runs}
 
@@ -17,7 +17,7 @@ stop_status Memory = statuses.Memory
 
 -- the ending has the outcome's status and a text of it
 abbrev pub Fits : RunOutcome → Ending → Type 0
-Fits outcome ending = (ending.status ≡ status_of outcome) × IsText outcome ending.text
+Fits outcome ending = IsEnding outcome ending.status ending.text
 
 -- a fault of reading comes only where the count of faults of the file rose
 abbrev pub StoppedAt : Stop → ℕ → ℕ → Type 0

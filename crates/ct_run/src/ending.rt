@@ -1,15 +1,22 @@
 //! How a run ends before it writes.
-ghost use Rattle.std.specs.Prelude.{IfOk};
-ghost use Rattle.ct_run.specs.Outcome.{usage, bad_instance, bad_sessions, answered};
+ghost use Rattle.std.specs.Prelude.{◌≡◌, IfOk};
+ghost use Rattle.std.specs.Arc.{arc_value};
+ghost use Rattle.ct_run.specs.Words.{IsLimit};
+ghost use Rattle.ct_run.specs.Outcome.{usage, bad_instance, bad_sessions, answered, full};
+ghost use Rattle.ct_run.specs.Plan.{case_of};
+ghost use Rattle.ct_run.specs.Checked.{reason_text, accepted_text, refused_text, too_long_text, bad_line_text};
 ghost use Rattle.ct_run.specs.Stopping.{Fits};
 ghost use Rattle.ct_input.specs.Script.{IsScript};
 
-use crate::report::push_report;
 use crate::status::Status;
+use ct_answer::{Options, answer};
+use ct_checker::Reason;
 use ct_input::{Fault, Script, push_fault};
 use ct_instance::Instance;
 use ct_point::Seq;
+use ct_text::push_natural;
 use std::alloc::{AllocError, Global};
+use std::sync::Arc;
 
 /// A status, and the text to be written with it.
 #[derive(Debug, Drop)]
@@ -51,14 +58,100 @@ pub fn bad_sessions_ending(alloc: Global, fault: &Fault) -> Result<Ending, Alloc
     })
 }
 
-pub fn report_ending(alloc: Global, inst: &Instance, script: &Script) -> Result<Ending, AllocError>
-    requires { IsScript inst.now.rows script.now }
-    ensures { IfOk result (λ ending. Fits (answered inst.now script.now) ending) }
+pub fn report_ending(
+    alloc: Global,
+    inst: &Arc<Instance>,
+    script: &Script,
+    options: Options,
+) -> Result<Ending, AllocError>
+    requires limit { IsLimit options.limit }
+    requires script { IsScript (arc_value inst.now).rows script.now }
+    ensures { IfOk result (λ ending. Fits (answered (case_of options (arc_value inst.now)) script.now) ending) }
 {
-    let mut text = Vec::new(alloc);
-    push_report(alloc, &mut text, inst, script)?;
+    let report = answer(alloc, Arc::try_clone(inst)?, script, options)?;
+    Ok(Ending {
+        status: Status::Done,
+        text: Seq::from_vec(report.print(alloc)?),
+    })
+}
+
+/// The ending where the full grade, this one, is at most the grade that was asked for.
+pub fn full_ending(alloc: Global, grade: u64) -> Result<Ending, AllocError>
+    ensures { IfOk result (λ ending. Fits (full grade) ending) }
+{
+    let mut text = Vec::from_slice(alloc, b"full ")?;
+    push_natural(&mut text, grade)?;
+    text.extend_from_slice(b"\n")?;
+    Ok(Ending {
+        status: Status::Full,
+        text: Seq::from_vec(text),
+    })
+}
+
+pub fn long_ledger_ending(alloc: Global) -> Result<Ending, AllocError>
+    ensures status { IfOk result (λ ending. ending.status ≡ Status.BadLedger) }
+    ensures text { IfOk result (λ ending. ending.text ≡ too_long_text) }
+{
+    Ok(Ending {
+        status: Status::BadLedger,
+        text: Seq::from_vec(Vec::from_slice(alloc, b"bad ledger: too long\n")?),
+    })
+}
+
+pub fn bad_ledger_ending(alloc: Global, line: u64) -> Result<Ending, AllocError>
+    ensures status { IfOk result (λ ending. ending.status ≡ Status.BadLedger) }
+    ensures text { IfOk result (λ ending. ending.text ≡ bad_line_text line) }
+{
+    let mut text = Vec::from_slice(alloc, b"bad ledger: line ")?;
+    push_natural(&mut text, line)?;
+    text.extend_from_slice(b"\n")?;
+    Ok(Ending {
+        status: Status::BadLedger,
+        text: Seq::from_vec(text),
+    })
+}
+
+pub fn accepted_ending(alloc: Global, grade: u64, moves: u32) -> Result<Ending, AllocError>
+    ensures status { IfOk result (λ ending. ending.status ≡ Status.Done) }
+    ensures text { IfOk result (λ ending. ending.text ≡ accepted_text grade moves) }
+{
+    let mut text = Vec::from_slice(alloc, b"accepted grade ")?;
+    push_natural(&mut text, grade)?;
+    text.extend_from_slice(b" moves ")?;
+    push_natural(&mut text, moves as u64)?;
+    text.extend_from_slice(b"\n")?;
     Ok(Ending {
         status: Status::Done,
         text: Seq::from_vec(text),
     })
+}
+
+pub fn refused_ending(alloc: Global, line: u64, reason: Reason) -> Result<Ending, AllocError>
+    ensures status { IfOk result (λ ending. ending.status ≡ Status.LedgerRefused) }
+    ensures text { IfOk result (λ ending. ending.text ≡ refused_text line reason) }
+{
+    let mut text = Vec::from_slice(alloc, b"refused: line ")?;
+    push_natural(&mut text, line)?;
+    text.extend_from_slice(b" ")?;
+    text.extend_from_slice(reason_word(reason))?;
+    text.extend_from_slice(b"\n")?;
+    Ok(Ending {
+        status: Status::LedgerRefused,
+        text: Seq::from_vec(text),
+    })
+}
+
+fn reason_word(reason: Reason) -> &'static [u8]
+    ensures { result.now ≡ reason_text reason }
+{
+    match reason {
+        Reason::Size => b"size",
+        Reason::Grade => b"grade",
+        Reason::Degree => b"degree",
+        Reason::Order => b"order",
+        Reason::Entry => b"entry",
+        Reason::Coprime => b"coprime",
+        Reason::Step => b"step",
+        Reason::End => b"end",
+    }
 }

@@ -7,9 +7,12 @@
 //! a plan.
 #![tactic(auto)]
 
+mod certifying;
+mod checking;
 mod ending;
+#[cfg(test)]
+mod ledger_tests;
 mod reading;
-mod report;
 mod run;
 mod status;
 mod stop;

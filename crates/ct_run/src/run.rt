@@ -1,61 +1,151 @@
 //! The top call.
-ghost use Rattle.std.specs.Prelude.{◌≡◌, ◌≤◌, ⊤, false, ℕ, List, Some};
+ghost use Rattle.std.specs.Prelude.{◌≡◌, ◌≤◌, ⊤, false, ℕ, List, IfOk, IfSome, option_map};
+ghost use Rattle.std.specs.Arc.{arc_value};
 ghost use Rattle.ct_outside.specs.Faults.{Rose};
 ghost use Rattle.ct_outside.specs.Shelf.{KeepsShelf};
-ghost use Rattle.ct_run.specs.Words.{answer};
+ghost use Rattle.ct_run.specs.Words.{IsLimit, IsCommandWithin};
+ghost use Rattle.ct_run.specs.Commands.{seen};
 ghost use Rattle.ct_run.specs.Outcome.{Wrote, WroteFront, is_stop, IsUnlessStopped, IsUnlessMemory};
-ghost use Rattle.ct_run.specs.Plan.{sessions_plan, plan_of, plan_in};
+ghost use Rattle.ct_run.specs.Plan.{case_of, sessions_plan, check_plan, work_plan, command_plan, plan_of, plan_in};
 ghost use Rattle.ct_run.specs.Running.{Ends, WouldEnd, ComesTo, Runs, HasReadFault, NoReadFault};
 ghost use Rattle.ct_run.specs.Stopping.{Ran};
 
+use crate::certifying::certify_ending;
+use crate::checking::check_ending;
 use crate::ending::{
     Ending, bad_instance_ending, bad_sessions_ending, report_ending, usage_ending,
 };
-use crate::reading::file_at;
+use crate::reading::{file_at, instance_in, script_in};
 use crate::status::Status;
 use crate::stop::Stop;
-use crate::words::{Command, command_in};
-use ct_input::limits::{INSTANCE_FILE_LIMIT, SESSION_FILE_LIMIT};
-use ct_input::{InputStop, read_instance, read_sessions};
+use crate::words::{Command, command_in, instance_of};
+use ct_answer::Options;
+use ct_input::InputStop;
+use ct_input::limits::{INSTANCE_FILE_LIMIT, LEDGER_FILE_LIMIT, SESSION_FILE_LIMIT};
 use ct_instance::Instance;
 use ct_outside::{Shelf, Sink, write_whole};
-use std::alloc::Global;
+use std::alloc::{AllocError, Global};
+use std::sync::Arc;
 
 // The ending of `answer` on the session file of an instance.
 fn sessions_ending<S: Shelf>(
     alloc: Global,
-    inst: &Instance,
+    inst: &Arc<Instance>,
     sessions: &str,
+    options: Options,
     shelf: &mut S,
 ) -> Result<Ending, Stop>
-    ensures ran { Ran (sessions_plan sessions.now inst.now) (S.told shelf.old) (S.faults shelf.old) (S.faults shelf.new) result }
+    requires { IsLimit options.limit }
+    ensures ran { Ran (sessions_plan sessions.now (case_of options (arc_value inst.now))) (S.told shelf.old) (S.faults shelf.old) (S.faults shelf.new) result }
     ensures kept { S.told shelf.new ≡ S.told shelf.old }
     ensures later { (name : List ℕ) → S.faults shelf.old name ≤ S.faults shelf.new name }
 {
     let bytes = file_at(alloc, sessions, SESSION_FILE_LIMIT as u64, shelf)?;
-    match read_sessions(alloc, inst.rows(), &bytes) {
-        Ok(script) => Ok(report_ending(alloc, inst, &script)?),
+    match script_in(alloc, inst.rows(), &bytes) {
+        Ok(script) => Ok(report_ending(alloc, inst, &script, options)?),
         Err(InputStop::Fault(fault)) => Ok(bad_sessions_ending(alloc, &fault)?),
         Err(InputStop::Memory) => Err(Stop::Memory),
     }
 }
 
-// The ending of `answer` on these files.
-fn answer_ending<S: Shelf>(
+// The ending of `check` on the ledger file.
+fn ledger_ending<S: Shelf>(
     alloc: Global,
-    instance: &str,
-    sessions: &str,
+    inst: &Arc<Instance>,
+    ledger: &str,
     shelf: &mut S,
 ) -> Result<Ending, Stop>
-    ensures ran { Ran (plan_of (Some (answer instance.now sessions.now))) (S.told shelf.old) (S.faults shelf.old) (S.faults shelf.new) result }
+    ensures ran { Ran (check_plan ledger.now (arc_value inst.now)) (S.told shelf.old) (S.faults shelf.old) (S.faults shelf.new) result }
     ensures kept { S.told shelf.new ≡ S.told shelf.old }
     ensures later { (name : List ℕ) → S.faults shelf.old name ≤ S.faults shelf.new name }
 {
-    let bytes = file_at(alloc, instance, INSTANCE_FILE_LIMIT as u64, shelf)?;
-    match read_instance(alloc, &bytes) {
-        Ok(inst) => sessions_ending(alloc, &inst, sessions, shelf),
+    let bytes = file_at(alloc, ledger, LEDGER_FILE_LIMIT as u64, shelf)?;
+    let ending = check_ending(alloc, inst, &bytes)?;
+    Ok(ending)
+}
+
+// The ending of a command on its instance.
+fn work_ending<S: Shelf>(
+    alloc: Global,
+    command: Command<'_>,
+    inst: Arc<Instance>,
+    shelf: &mut S,
+) -> Result<Ending, Stop>
+    requires { IsCommandWithin (seen command) }
+    ensures ran { Ran (work_plan (seen command.entry) (arc_value inst)) (S.told shelf.old) (S.faults shelf.old) (S.faults shelf.new) result }
+    ensures kept { S.told shelf.new ≡ S.told shelf.old }
+    ensures later { (name : List ℕ) → S.faults shelf.old name ≤ S.faults shelf.new name }
+{
+    match command {
+        Command::Answer {
+            sessions,
+            walks,
+            levels,
+            moves,
+            ..
+        } => {
+            let options = Options {
+                limit: moves,
+                walks,
+                levels,
+            };
+            sessions_ending(alloc, &inst, sessions, options, shelf)
+        }
+        Command::Certify { grade, moves, .. } => Ok(certify_ending(alloc, inst, grade, moves)?),
+        Command::Check { ledger, .. } => ledger_ending(alloc, &inst, ledger, shelf),
+    }
+}
+
+fn shared(alloc: Global, inst: Instance) -> Result<Arc<Instance>, AllocError>
+    ensures { IfOk result (λ made. arc_value made ≡ inst) }
+{
+    match Arc::new(alloc, inst) {
+        Ok(made) => Ok(made),
+        Err(_) => Err(AllocError),
+    }
+}
+
+// The ending of a command.
+fn command_ending<S: Shelf>(
+    alloc: Global,
+    command: Command<'_>,
+    shelf: &mut S,
+) -> Result<Ending, Stop>
+    requires { IsCommandWithin (seen command) }
+    ensures ran { Ran (command_plan (seen command.entry)) (S.told shelf.old) (S.faults shelf.old) (S.faults shelf.new) result }
+    ensures kept { S.told shelf.new ≡ S.told shelf.old }
+    ensures later { (name : List ℕ) → S.faults shelf.old name ≤ S.faults shelf.new name }
+{
+    let bytes = file_at(
+        alloc,
+        instance_of(&command),
+        INSTANCE_FILE_LIMIT as u64,
+        shelf,
+    )?;
+    match instance_in(alloc, &bytes) {
+        Ok(read) => {
+            let inst = shared(alloc, read)?;
+            work_ending(alloc, command, inst, shelf)
+        }
         Err(InputStop::Fault(fault)) => Ok(bad_instance_ending(alloc, &fault)?),
         Err(InputStop::Memory) => Err(Stop::Memory),
+    }
+}
+
+// The ending of a command, or of words that are none.
+fn ending_by<S: Shelf>(
+    alloc: Global,
+    command: Option<Command<'_>>,
+    shelf: &mut S,
+) -> Result<Ending, Stop>
+    requires { IfSome command (λ known. IsCommandWithin (seen known)) }
+    ensures ran { Ran (plan_of (option_map seen command.entry)) (S.told shelf.old) (S.faults shelf.old) (S.faults shelf.new) result }
+    ensures kept { S.told shelf.new ≡ S.told shelf.old }
+    ensures later { (name : List ℕ) → S.faults shelf.old name ≤ S.faults shelf.new name }
+{
+    match command {
+        Some(command) => command_ending(alloc, command, shelf),
+        None => Ok(usage_ending(alloc)?),
     }
 }
 
@@ -65,19 +155,20 @@ fn ending_of<S: Shelf>(alloc: Global, words: &[String], shelf: &mut S) -> Result
     ensures kept { S.told shelf.new ≡ S.told shelf.old }
     ensures later { (name : List ℕ) → S.faults shelf.old name ≤ S.faults shelf.new name }
 {
-    match command_in(words) {
-        None => Ok(usage_ending(alloc)?),
-        Some(Command::Answer { instance, sessions }) => {
-            answer_ending(alloc, instance, sessions, shelf)
-        }
+    match command_in(alloc, words) {
+        Ok(command) => ending_by(alloc, command, shelf),
+        Err(_) => Err(Stop::Memory),
     }
 }
 
 /// Runs the command that the words after the program's name are, and writes its text or the line of its refusal:
-/// `answer INSTANCE SESSIONS` answers each request of the session file, an ask as a solve.
+/// `answer INSTANCE SESSIONS` answers each request of the session file, an ask as a solve; `certify INSTANCE GRADE` prints
+/// the ledger of the test set of a grade, and `check INSTANCE LEDGER` checks a ledger. `--walks` shows the walk of each
+/// answer, `--levels` the level of each phase, and `--moves N` keeps test lists to N moves.
 ///
-/// It always returns. The files are held whole, and so is the text before the first write. The time is that of listing
-/// the fiber of each right-hand side.
+/// It always returns. The files are held whole, and so is the text before the first write. The time is that of one
+/// completion up to the greatest grade that is asked for, and of a walk for each request or of a pair of walks for each
+/// entry of a ledger.
 pub fn run_plain<S: Shelf, O: Sink>(
     alloc: Global,
     words: &[String],

@@ -19,6 +19,12 @@ pub enum Status {
     WriteFault,
     /// Memory ran out, and nothing was written.
     Memory,
+    /// The ledger file is the text of no ledger.
+    BadLedger,
+    /// A line of the ledger is refused.
+    LedgerRefused,
+    /// The test list of some grade up to the one that was asked for has more moves than the limit.
+    Full,
 }
 
 impl Status {
@@ -36,6 +42,9 @@ impl Status {
             Status::ReadFault => 5,
             Status::WriteFault => 6,
             Status::Memory => 7,
+            Status::BadLedger => 8,
+            Status::LedgerRefused => 9,
+            Status::Full => 10,
         }
     }
 }

@@ -1,9 +1,9 @@
 use Rattle.std.proofs.Common.{ℕ, List, Ok, Err, subst, refl}
 use Rattle.std.specs.Io.KnownBytes.{Appends}
 use Rattle.ct_outside.specs.Sink.{AppendsFront}
-use Rattle.ct_run.specs.declared.status.Status.TheVariants.{WriteFault}
+use Rattle.ct_run.specs.declared.status.Status.TheVariants.{ReadFault, WriteFault, Memory}
 use Rattle.ct_run.specs.Plan.{plan_in}
-use Rattle.ct_run.proofs.Endings.{whole_text, text_front, exact_status, complete_status, any_status, stop_exactly, read_fault_cause, stop_complete, in_order, kept_counts}
+use Rattle.ct_run.proofs.Endings.{not_stopped, whole_text, text_front, exact_status, complete_status, any_status, stop_exactly, read_fault_cause, stop_complete, in_order, kept_counts}
 use Rattle.ct_run.proofs.run.run_plain.Goals as goal
 
 -- ---- where the whole text was written
@@ -28,6 +28,26 @@ returns-in-Ok-write_whole-clause-order g c =
 pub returns-in-Ok-write_whole-clause-shelf : goal.returns-in-Ok-write_whole-clause-shelf
 returns-in-Ok-write_whole-clause-shelf g c =
     record { kept = c.in-Ok.ensures.kept; later = c.in-Ok.ensures.later; others = kept_counts (plan_in c.args.words.now) (g.S.Shelf.told c.args.shelf.now) (g.S.Shelf.faults c.args.shelf.now) (g.S.Shelf.faults c.ending_of.new.shelf) (Ok c.in-Ok.ending) c.in-Ok.ensures.ran }
+
+pub returns-in-Ok-write_whole-clause-read_fault : goal.returns-in-Ok-write_whole-clause-read_fault
+returns-in-Ok-write_whole-clause-read_fault g c =
+    λ failed. absurd (not_stopped (plan_in c.args.words.now) (g.S.Shelf.told c.args.shelf.now) (g.S.Shelf.faults c.args.shelf.now) (g.S.Shelf.faults c.ending_of.new.shelf) c.in-Ok.ending ReadFault c.in-Ok.ensures.ran refl failed)
+
+pub returns-in-Ok-write_whole-clause-write_fault : goal.returns-in-Ok-write_whole-clause-write_fault
+returns-in-Ok-write_whole-clause-write_fault g c =
+    λ failed. absurd (not_stopped (plan_in c.args.words.now) (g.S.Shelf.told c.args.shelf.now) (g.S.Shelf.faults c.args.shelf.now) (g.S.Shelf.faults c.ending_of.new.shelf) c.in-Ok.ending WriteFault c.in-Ok.ensures.ran refl failed)
+
+pub returns-in-Ok-write_whole-clause-front : goal.returns-in-Ok-write_whole-clause-front
+returns-in-Ok-write_whole-clause-front g c =
+    λ failed. absurd (not_stopped (plan_in c.args.words.now) (g.S.Shelf.told c.args.shelf.now) (g.S.Shelf.faults c.args.shelf.now) (g.S.Shelf.faults c.ending_of.new.shelf) c.in-Ok.ending WriteFault c.in-Ok.ensures.ran refl failed)
+
+pub returns-in-Ok-write_whole-clause-unread : goal.returns-in-Ok-write_whole-clause-unread
+returns-in-Ok-write_whole-clause-unread g c =
+    λ failed. absurd (not_stopped (plan_in c.args.words.now) (g.S.Shelf.told c.args.shelf.now) (g.S.Shelf.faults c.args.shelf.now) (g.S.Shelf.faults c.ending_of.new.shelf) c.in-Ok.ending ReadFault c.in-Ok.ensures.ran refl failed)
+
+pub returns-in-Ok-write_whole-clause-memory : goal.returns-in-Ok-write_whole-clause-memory
+returns-in-Ok-write_whole-clause-memory g c =
+    λ failed. absurd (not_stopped (plan_in c.args.words.now) (g.S.Shelf.told c.args.shelf.now) (g.S.Shelf.faults c.args.shelf.now) (g.S.Shelf.faults c.ending_of.new.shelf) c.in-Ok.ending Memory c.in-Ok.ensures.ran refl failed)
 
 -- ---- where writing failed
 

@@ -15,10 +15,10 @@ pub at_item : {X : Type 0} (P : X → Type 0) (xs : List X) (k : ℕ) (x : X) �
 at_item P xs k x inside is all = subst P (sym is) (All-get_or P xs k x inside all)
 
 pub each_pushed : {X Y : Type 0} (R : X → Y → Type 0) (xs : List X) (ys : List Y) (x : X) (y : Y) → AreEach R xs ys → R x y → AreEach R (xs ++ x ∷ []) (ys ++ y ∷ [])
-pub each_pushed R [] [] x y each here = (here, tt)
-pub each_pushed R [] (z ∷ ys) x y each here = absurd each
-pub each_pushed R (w ∷ xs) [] x y each here = absurd each
-pub each_pushed R (w ∷ xs) (z ∷ ys) x y each here = (each.0, each_pushed R xs ys x y each.1 here)
+each_pushed R [] [] x y each here = (here, tt)
+each_pushed R [] (z ∷ ys) x y each here = absurd each
+each_pushed R (w ∷ xs) [] x y each here = absurd each
+each_pushed R (w ∷ xs) (z ∷ ys) x y each here = (each.0, each_pushed R xs ys x y each.1 here)
 
 pub each_more : {X Y : Type 0} (R : X → Y → Type 0) (xs : List X) (ys : List Y) (k : ℕ) (x : X) (y : Y) → k < length xs → x ≡ get_or xs k x →
     AreEach R (take k xs) ys → R x y → AreEach R (take (k + 1) xs) (ys ++ y ∷ [])

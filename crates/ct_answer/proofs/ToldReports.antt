@@ -93,17 +93,17 @@ grade_upto c grade [] = grade
 grade_upto c grade (phase ∷ phases) = grade_upto c (grade_after c grade phase) phases
 
 pub grade_pushed : (c : Case) (grade : ℕ) (phases : List Phase) (phase : Phase) → grade_upto c grade (phases ++ phase ∷ []) ≡ grade_after c (grade_upto c grade phases) phase
-pub grade_pushed c grade [] phase = refl
-pub grade_pushed c grade (first ∷ phases) phase = grade_pushed c (grade_after c grade first) phases phase
+grade_pushed c grade [] phase = refl
+grade_pushed c grade (first ∷ phases) phase = grade_pushed c (grade_after c grade first) phases phase
 
 pub phases_pushed : (c : Case) (grade : ℕ) (phases : List Phase) (reports : List PhaseReport) (phase : Phase) (report : PhaseReport) → AreLegalPhases c grade phases reports →
     AreLegalSessions c (max c.opened (grade_upto c grade phases)) phase.sessions report.sessions →
     IsLevelShown c.levels (case_reach c (grade_after c (grade_upto c grade phases) phase)) report.level →
     AreLegalPhases c grade (phases ++ phase ∷ []) (reports ++ report ∷ [])
-pub phases_pushed c grade [] [] phase report legal sessions level = (sessions, level, tt)
-pub phases_pushed c grade [] (r ∷ reports) phase report legal sessions level = absurd legal
-pub phases_pushed c grade (first ∷ phases) [] phase report legal sessions level = absurd legal
-pub phases_pushed c grade (first ∷ phases) (r ∷ reports) phase report legal sessions level =
+phases_pushed c grade [] [] phase report legal sessions level = (sessions, level, tt)
+phases_pushed c grade [] (r ∷ reports) phase report legal sessions level = absurd legal
+phases_pushed c grade (first ∷ phases) [] phase report legal sessions level = absurd legal
+phases_pushed c grade (first ∷ phases) (r ∷ reports) phase report legal sessions level =
     (legal.0, legal.1, phases_pushed c (grade_after c grade first) phases reports phase report legal.2 sessions level)
 
 -- the phases up to the k-th, with their grade

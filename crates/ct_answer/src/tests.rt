@@ -258,7 +258,12 @@ fn right_phases(
     requires { All (IsPhase inst.now.rows) phases.now }
 {
     for (phase, report) in phases.iter().zip(told) {
-        if !right_sessions(alloc, inst, phase.sessions.as_slice(), report.sessions.as_slice())? {
+        if !right_sessions(
+            alloc,
+            inst,
+            phase.sessions.as_slice(),
+            report.sessions.as_slice(),
+        )? {
             return Ok(false);
         }
     }
@@ -271,7 +276,13 @@ fn right_answers(alloc: Global, instance: &str, sessions: &str) -> Option<bool> 
     let script = read_sessions(alloc, inst.rows(), sessions.as_bytes()).ok()?;
     let shared = Arc::new(alloc, inst).ok()?;
     let report = answer(alloc, Arc::try_clone(&shared).ok()?, &script, PLAIN).ok()?;
-    right_phases(alloc, &shared, script.phases.as_slice(), report.phases.as_slice()).ok()
+    right_phases(
+        alloc,
+        &shared,
+        script.phases.as_slice(),
+        report.phases.as_slice(),
+    )
+    .ok()
 }
 
 #[test]

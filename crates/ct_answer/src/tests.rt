@@ -2,10 +2,11 @@
 ghost use Rattle.std.specs.Prelude.{◌≤◌, All};
 ghost use Rattle.ct_vectors.specs.declared.limits.TheConstants.{RIGHT_LIMIT};
 ghost use Rattle.ct_instance.specs.Instance.{IsRight};
-ghost use Rattle.ct_input.specs.Script.{IsRequest, IsPhase};
+ghost use Rattle.ct_input.specs.Script.{IsRequest, IsPhase, IsScript};
+ghost use Rattle.std.specs.Arc.{arc_value};
 
 use crate::{Options, answer};
-use ct_input::{Phase, Request, read_instance, read_sessions};
+use ct_input::{Phase, Request, Script, read_instance, read_sessions};
 use ct_instance::Instance;
 use ct_point::Seq;
 use ct_report::PhaseReport;
@@ -270,19 +271,26 @@ fn right_phases(
     Ok(phases.len() == told.len())
 }
 
-// Whether the requests of these texts are all answered so.
-fn right_answers(alloc: Global, instance: &str, sessions: &str) -> Option<bool> {
-    let inst = read_instance(alloc, instance.as_bytes()).ok()?;
-    let script = read_sessions(alloc, inst.rows(), sessions.as_bytes()).ok()?;
-    let shared = Arc::new(alloc, inst).ok()?;
-    let report = answer(alloc, Arc::try_clone(&shared).ok()?, &script, PLAIN).ok()?;
+// Whether all requests of the script are answered so.
+fn right_report(alloc: Global, inst: &Arc<Instance>, script: &Script) -> Option<bool>
+    requires { IsScript (arc_value inst.now).rows script.now }
+{
+    let report = answer(alloc, Arc::try_clone(inst).ok()?, script, PLAIN).ok()?;
     right_phases(
         alloc,
-        &shared,
+        inst,
         script.phases.as_slice(),
         report.phases.as_slice(),
     )
     .ok()
+}
+
+// The same of the texts of an instance and a script.
+fn right_answers(alloc: Global, instance: &str, sessions: &str) -> Option<bool> {
+    let inst = read_instance(alloc, instance.as_bytes()).ok()?;
+    let script = read_sessions(alloc, inst.rows(), sessions.as_bytes()).ok()?;
+    let shared = Arc::new(alloc, inst).ok()?;
+    right_report(alloc, &shared, &script)
 }
 
 #[test]

@@ -1,3 +1,4 @@
 pub mod Together
 pub mod Drawn
 pub mod Inputs
+pub mod LegalReports

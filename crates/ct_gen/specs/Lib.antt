@@ -2,3 +2,4 @@ pub mod Draws
 pub mod Made
 pub mod SummaryText
 pub mod Tallies
+pub mod Laws

@@ -15,9 +15,7 @@ use Rattle.ct_input.specs.Files.{instance_file, session_file}
 use Rattle.ct_run.specs.declared.status.Status.TheVariants.{Done, Usage, BadInstance, BadSessions, BadLedger, LedgerRefused, Full}
 use Rattle.ct_text.specs.Numbers.{natural_of}
 use Rattle.ct_words.specs.Parts.{parts_of}
-use Rattle.ct_words.specs.Table.{commands}
-use Rattle.ct_words.specs.Said.{places_of, said_of}
-use Rattle.ct_run.proofs.Told.{no_command}
+use Rattle.ct_words.specs.Said.{places_of}
 use Rattle.ct_run.specs.Words.{Command, answer, certify, check, command_of}
 use Rattle.ct_instance.specs.Reach.{full_grade_up_to}
 use Rattle.ct_ledger.specs.Parts.{LedgerParts}
@@ -125,6 +123,3 @@ IsUsage (Some command) = is_unbuilt command ≡ true
 usage_only : (command : Option Command) (told : List ℕ → Told) (old new : Option (List ℕ)) → Ends (plan_of command) told (Wrote Usage old new) → IsUsage command
 usage_only None told old new wrote = tt
 usage_only (Some command) told old new wrote = usage_unless (is_unbuilt command) command told old new wrote
-
-usage_words : (words : List (List ℕ)) → command_of words ≡ None → said_of commands words ≡ None
-usage_words = no_command

@@ -8,3 +8,4 @@ pub mod Outcome
 pub mod Plan
 pub mod Running
 pub mod Stopping
+pub mod Laws

@@ -151,10 +151,12 @@ fn ending_of<S: Shelf>(alloc: Global, words: &[String], shelf: &mut S) -> Result
 }
 
 /// Runs the command that the words after the program's name are, and writes its text or the line of its refusal:
-/// `answer INSTANCE SESSIONS` answers each request of the session file, an ask as a solve.
+/// `answer INSTANCE SESSIONS` answers each request of the session file, an ask as a solve; `certify INSTANCE GRADE` makes
+/// the ledger of the test list of the grade, and `check INSTANCE LEDGER` checks one.
 ///
-/// It always returns. The files are held whole, and so is the text before the first write. The time is that of listing
-/// the fiber of each right-hand side.
+/// It always returns. The files are held whole, and so is the text before the first write. The time of `answer` is that of
+/// listing the fiber of each right-hand side, that of `certify` a completion and two walks for each job of its list, that
+/// of `check` a look at each pair of moves and each step of the ledger.
 pub fn run_plain<S: Shelf, O: Sink>(
     alloc: Global,
     words: &[String],

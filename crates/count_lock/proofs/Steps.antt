@@ -11,7 +11,7 @@ use Rattle.atomic_table.proofs.Lists.{at_set, set_else, set_again, at_longer, at
 use Rattle.count_lock.specs.declared.note.Note.{Note}
 use Rattle.count_lock.specs.Pairs.{Agree, times, HasEach, GrowsAt, first_number}
 use Rattle.count_lock.specs.Count.{Knows, IsFree, IsTaken, CountRule, first_note, spent_note, worth, total, once}
-use Rattle.count_lock.specs.Told.{carried_with, Took, Released, wins, releases, keeps_most, gives_last, takes_in}
+use Rattle.count_lock.specs.Told.{Took, Released, wins, releases, keeps_most, gives_last, takes_in}
 use Rattle.count_lock.proofs.Totals.{total_set, total_snoc, total_one, total_two}
 use Rattle.count_lock.proofs.PairLists.{times_append, times_first, agree_append, agree_others, times_recounted, agree_recounted, length_recounted, times_parted, agree_but_last, agree_last, some_last, some_but_last, times_numbered, times_above, length_numbered, agree_opening}
 
@@ -29,10 +29,6 @@ module _ {V : Type 0} where
   -- exchange out: the pass has the slot of the lock in hand, and no view changes
   pub exchanges_out : (carried : List (ℕ × Option V)) (inside : Option V) → carried ≡ (0, inside) ∷ [] → (old : Option V) × (carried ≡ (0, old) ∷ rest carried)
   exchanges_out carried inside is = (inside, is ∙ ap (λ (l : List (ℕ × Option V)). (0, inside) ∷ rest l) (sym is))
-
-  -- exchange in: the slot in hand, and nothing else, has the value that goes home, and no view changes
-  pub exchanges_in : (carried now : List (ℕ × Option V)) (held : Option (List ℕ)) (counts : List ℕ) (value : V) → now ≡ (0, Some value) ∷ rest carried → carried ≡ carried_with held → held ≡ Some counts → now ≡ (0, Some value) ∷ []
-  exchanges_in carried now held counts value is before holds = is ∙ ap (λ (l : List (ℕ × Option V)). (0, Some value) ∷ rest l) (before ∙ ap carried_with holds)
 
 -- the value in hand, or d
 abbrev some_or : {V : Type 0} → V → Option V → V

@@ -1,5 +1,6 @@
 -- One more entry of a journal, and its count.
-use Rattle.std.proofs.Common.{◌≡◌, ℕ, ◌+◌, ◌≤◌, ◌<◌, true, false, nat_eq, cond, List, [], ◌∷◌, ◌++◌, length, get_or, set, All, sym, ap, subst, ◌∙◌, refl, arith, eq-eqb, ⊎_elim}
+use Rattle.std.proofs.Common.{◌≡◌, ℕ, ◌+◌, ◌≤◌, ◌<◌, ◌^◌, true, false, nat_eq, cond, List, [], ◌∷◌, ◌++◌, length, map, get_or, set, All, sym, ap, subst, ◌∙◌, refl, arith, eq-eqb, ⊎_elim}
+use Rattle.std.specs.List.{AllByRecursion}
 use Rattle.std.proofs.lemmas.Bool.{ne_eqb, cases_eq}
 use Rattle.std.proofs.lemmas.Grind.{get_or-set_at}
 use Rattle.std.proofs.lemmas.List.{length-set, get_or-set_other}
@@ -62,3 +63,8 @@ log_grows entries counts log by serial n act within same more =
       serials = serials_grow entries (entry_of by serial act) log.serials (same ∙ log.counted by within);
       counted = λ pass below. counted_more entries counts log by serial n act within same more pass (subst (λ (k : ℕ). pass < k) wide below);
     }
+
+-- no count is greater than the number of entries
+pub counts_small : (entries : List Entry) (passes : List ℕ) → length entries < 2 ^ 64 → AllByRecursion (λ n. n < 2 ^ 64) (map (λ p. entries_of p entries) passes)
+counts_small entries [] small = tt
+counts_small entries (p ∷ passes) small = (omega (arith, count_by-le-length (λ e. nat_eq e.pass p) entries), counts_small entries passes small)

@@ -75,14 +75,6 @@ turned b g t c h =
     edition : Problem → ℕ → Edition
     edition i k = record { instance = i; number = k }
 
--- a job that waits isn't resolved, so its remainder is needed
-pub not_already : (b : BookSeen) (r : RemainderSeen) (t : TaskSeen) (c : BookSeen) → task_of r ≡ t → t.version ≡ edition_of b → Contains (b.state).queue t.job →
-    Steps b (already (r.version).number r.job) [] c → ⊥
-not_already b r t c same own listed s =
-    let number : (r.version).number ≡ (b.state).number = ap (λ (x : TaskSeen). (x.version).number) same ∙ ap (λ (v : Edition). v.number) own in
-    let job : Contains (b.state).queue r.job = subst (Contains (b.state).queue) (sym (ap (λ (x : TaskSeen). x.job) same)) listed in
-    ⊎_elim (λ ne. ne number) (λ done. done.done job) (s.step).0
-
 -- storing makes the queue shorter by one job
 pub stored_shorter : (b : BookSeen) (j : Job) (more : List Entry) (c : BookSeen) → Steps b (stores j) more c →
     (length (c.state).queue + 1 ≡ length (b.state).queue) × ((c.state).number ≡ (b.state).number)
@@ -100,9 +92,6 @@ pub number_below : (b : BookSeen) (g : ℕ) → (IsCovered b g → ⊥) → (b.s
 number_below b g beyond =
     ⊎_elim (λ l. l) (λ l. absurd (beyond (Covers-le (level_of b.instance (b.state).number) g (b.state).number l (covers_number b.instance (b.state).number))))
     (cases_lt (b.state).number g)
-
-pub covered_by_number : (b c : BookSeen) (g : ℕ) → c.instance ≡ b.instance → (c.state).number ≡ (b.state).number → IsCovered b g → IsCovered c g
-covered_by_number b c g i k covers = subst₂ (λ (j : Problem) (n : ℕ). Covers (level_of j n) g) (sym i) (sym k) covers
 
 -- ---- runs one after another
 

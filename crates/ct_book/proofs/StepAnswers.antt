@@ -33,15 +33,6 @@ published_mark b h o by g beyond c m p =
       finished = ap (λ (v : Edition). level_of b.instance v.number) p.0 ∙ short.same ∙ ap upto (let e : short.level ≡ m.grade - 1 = omega (arith, above, same) in e);
     }
 
-pub counts_stay : (b c : BookSeen) (event : CompletionEvent) (by : ℕ) → Steps b event [] c → CountsRise by 0 b c
-counts_stay b c event by s =
-    let same : c.journal ≡ b.journal = ap (λ (x : BookSeen). x.journal) s.kept ∙ append-nil b.journal in
-    (ap (entries_of by) same ∙ (let e : entries_of by b.journal ≡ entries_of by b.journal + 0 = omega arith in e), λ pass ne. ap (entries_of pass) same)
-
-pub counts_same : (b c : BookSeen) (by : ℕ) → c ≡ b → CountsRise by 0 b c
-counts_same b c by same =
-    (ap (λ (x : BookSeen). entries_of by x.journal) same ∙ (let e : entries_of by b.journal ≡ entries_of by b.journal + 0 = omega arith in e), λ pass ne. ap (λ (x : BookSeen). entries_of pass x.journal) same)
-
 pub counts_rise : (b c : BookSeen) (event : CompletionEvent) (by : ℕ) (act : Act) → Steps b event (entry_by b by act ∷ []) c → CountsRise by 1 b c
 counts_rise b c event by act s =
     let same : c.journal ≡ b.journal ++ entry_by b by act ∷ [] = ap (λ (x : BookSeen). x.journal) s.kept in (

@@ -3,9 +3,9 @@ use Rattle.std.specs.Prelude.{ℕ, ◌+◌, ◌≤◌, suc, ◌≡◌, ◌⊎◌
 use Rattle.std.specs.List.{list_any}
 use Rattle.std.specs.Arc.{arc_value}
 use Rattle.ct_instance.specs.declared.jobs.Job.{Job}
-use Rattle.ct_instance.specs.declared.jobs.Job.TheVariants.{Generator, Pair}
 use Rattle.ct_instance.specs.Instance.{Problem}
 use Rattle.ct_instance.specs.Made.{indices}
+use Rattle.ct_instance.specs.Jobs.{is_same_job}
 use Rattle.ct_instance.specs.Versions.{Covers, level_of}
 use Rattle.ct_instance.specs.Reach.{opened_grade}
 use Rattle.ct_completion.specs.declared.journals.Act.{Act}
@@ -71,12 +71,6 @@ pub record Runs (b c : BookSeen) : Type 0 where
   pub kept : c ≡ record b { state = c.state; journal = b.journal ++ more }
 
 -- ---- what is shown
-
-abbrev pub is_same_job : Job → Job → Bool
-is_same_job (Generator j) (Generator k) = nat_eq j k
-is_same_job (Generator j) (Pair a b) = false
-is_same_job (Pair a b) (Generator k) = false
-is_same_job (Pair a b) (Pair c d) = cond (nat_eq a c) (nat_eq b d) false
 
 -- the number of the version; 1 where the book is marked full, and else 0; and for each job of the opened grade in job
 -- order 1 where it is resolved, and else 0

@@ -1,5 +1,5 @@
 //! The book.
-ghost use Rattle.std.specs.Prelude.{◌≡◌, ◌≤◌, ◌<◌, ◌+◌, ◌^◌, [], ◌∷◌, ◌++◌, ◌↔◌, ℕ, length, vec_len, vec_capacity, IsPermutation, IfOk, OnOk, OnErr, MatchResult, IsTrue};
+ghost use Rattle.std.specs.Prelude.{◌≡◌, ◌≤◌, ◌<◌, ◌+◌, ◌^◌, [], ◌∷◌, ◌++◌, ◌↔◌, ℕ, length, vec_len, vec_capacity, All, IsPermutation, IfOk, OnOk, OnErr, MatchResult, IsTrue};
 ghost use Rattle.ct_vectors.specs.declared.limits.TheConstants.{GRADE_LIMIT, MOVE_LIMIT};
 
 use crate::completing::complete;
@@ -47,10 +47,10 @@ impl Model for Book {
 impl Book {
     ghost use Rattle.std.specs.Arc.{arc_value};
     ghost use Rattle.ct_completion.specs.Machine.{just_opened};
-    ghost use Rattle.ct_completion.specs.Journal.{entries_of, IsReplay};
+    ghost use Rattle.ct_completion.specs.Journal.{entries_of, AreSerials, IsReplay};
     ghost use Rattle.ct_version.specs.Editions.{IsEdition};
     ghost use Rattle.ct_version.specs.Desks.{IsOfPlace};
-    ghost use Rattle.ct_book.specs.Books.{edition_of, place_of, IsReadyBook, IsNext, IsCommitted, IsPublished, IsStep, IsRiseOf, CountsRise, IsCompleted, IsEnded, rise_of};
+    ghost use Rattle.ct_book.specs.Books.{edition_of, place_of, IsReadyBook, IsNext, IsCommitted, IsPublished, IsStep, IsRiseOf, counts_of, CountsRise, IsCompleted, IsEnded, rise_of};
 
     /// A book at version 0, with its grade opened and an empty journal, for an instance, a limit of 1 to 4,096 moves and
     /// 1 to 33 passes. It is linear in the columns.
@@ -71,6 +71,7 @@ impl Book {
         let log = room_for(alloc, passes, queue.len())?;
         let levels = only(alloc, finished)?;
         let version = shared(alloc, Version::new(Moves::new(alloc, inst), 0, finished))?;
+        // For its facts alone: there is such a version.
         let _number = version.number();
         Ok(Book {
             version,
@@ -99,18 +100,40 @@ impl Book {
         &self.version
     }
 
-    /// The journal.
+    /// The journal. Each entry is of one of the passes, and its serial is the number of earlier entries of that pass.
     pub fn journal(&self) -> &[Entry]
         ensures entries { result.now ≡ self.now.journal }
         ensures replay { IsReplay self.now.instance self.now.limit self.now.journal self.now.state }
+        ensures passes { All (λ e. e.pass < self.now.passes) self.now.journal }
+        ensures serials { AreSerials self.now.journal }
     {
         self.log.entries()
+    }
+
+    /// The journal with its memory. The rest of the book is dropped.
+    pub fn into_journal(self) -> Vec<Entry>
+        ensures entries { result.items ≡ self.journal }
+        ensures replay { IsReplay self.instance self.limit self.journal self.state }
+        ensures passes { All (λ e. e.pass < self.passes) self.journal }
+        ensures serials { AreSerials self.journal }
+    {
+        let Book {
+            version: _,
+            limit: _,
+            full: _,
+            levels: _,
+            buckets: _,
+            queue: _,
+            log,
+        } = self;
+        log.into_entries()
     }
 
     /// The number of entries of a pass.
     pub fn entries(&self, pass: u32) -> u64
         requires { pass < self.now.passes }
-        ensures { result ≡ entries_of pass self.now.journal }
+        ensures entries { result ≡ entries_of pass self.now.journal }
+        ensures counts { All (λ n. n < 2 ^ 64) (counts_of self.now) }
     {
         self.log.count(pass)
     }
@@ -186,6 +209,7 @@ impl Book {
         ensures answer { IfOk result (IsPublished self.old by self.new) }
         ensures refused { OnErr result (self.new ≡ self.old) }
     {
+        // For its facts alone: there is a slot for each job, and each that waits stands once in the queue.
         let _left = self.queue.left();
         let new = moves_left(alloc, self.version.moves().instance(), &self.queue)?;
         if self.version.moves().len() as usize + new.len() > self.limit as usize {
@@ -224,6 +248,7 @@ impl Book {
         ensures refused { OnErr result (self.new ≡ self.old) }
         ensures counts { IfOk result (λ s. (rise : ℕ) × IsRiseOf s rise × CountsRise by rise self.old self.new) }
     {
+        // For its facts alone: the book's version is one of its place.
         let _version = self.version();
         match self.next(target)? {
             Next::Reached(helped) => Ok(Step::Reached(helped)),

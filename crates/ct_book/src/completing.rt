@@ -18,6 +18,7 @@ pub fn complete(book: &mut Book, alloc: Global, by: u32, target: u64) -> Result<
     ensures { MatchResult result (IsCompleted book.old target book.new) (IsEnded book.old target book.new) }
 {
     loop {
+        // For its facts alone: the book's version is one of its place.
         let _version = book.version();
         match resolve_all(book, alloc, by, target) {
             Err(_) => return Err(Stop::Memory),

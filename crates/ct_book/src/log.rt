@@ -1,6 +1,6 @@
 //! The journal, with the number of entries of each pass.
-ghost use Rattle.std.specs.Prelude.{◌≡◌, ◌+◌, ◌≤◌, ◌<◌, [], ◌∷◌, ◌++◌, length, replicate, IfOk, OnOk};
-ghost use Rattle.ct_completion.specs.Journal.{entries_of};
+ghost use Rattle.std.specs.Prelude.{◌≡◌, ◌+◌, ◌^◌, ◌≤◌, ◌<◌, [], ◌∷◌, ◌++◌, length, replicate, All, IfOk, OnOk};
+ghost use Rattle.ct_completion.specs.Journal.{entries_of, AreSerials};
 
 use ct_completion::{Act, Entry};
 use std::alloc::{AllocError, Global};
@@ -67,15 +67,28 @@ impl Log {
 
     // The entries in order.
     pub fn entries(&self) -> &[Entry]
-        ensures { result.now ≡ self.now.entries }
+        ensures entries { result.now ≡ self.now.entries }
+        ensures passes { All (λ e. e.pass < self.now.passes) self.now.entries }
+        ensures serials { AreSerials self.now.entries }
     {
         self.entries.as_slice()
+    }
+
+    // The entries with their memory.
+    pub fn into_entries(self) -> Vec<Entry>
+        ensures entries { result.items ≡ self.entries }
+        ensures passes { All (λ e. e.pass < self.passes) self.entries }
+        ensures serials { AreSerials self.entries }
+    {
+        let Log { entries, counts: _ } = self;
+        entries
     }
 
     // The number of entries of a pass.
     pub fn count(&self, pass: u32) -> u64
         requires { pass < self.now.passes }
-        ensures { result ≡ entries_of pass self.now.entries }
+        ensures count { result ≡ entries_of pass self.now.entries }
+        ensures small { length self.now.entries < 2 ^ 64 }
     {
         self.counts[pass as usize]
     }

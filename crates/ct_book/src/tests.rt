@@ -4,8 +4,9 @@ ghost use Rattle.ct_vectors.specs.declared.limits.TheConstants.{GRADE_LIMIT, MOV
 
 use crate::{Act, Book, Committed, Entry, Next, Published, Remainder, Step};
 use ct_instance::{Instance, Job};
+use ct_order::CostList;
 use ct_point::Point;
-use ct_version::{Finished, NotYet, Stop};
+use ct_version::{AnswerKind, Finished, NotYet, Stop};
 use std::alloc::Global;
 use std::process::Abort;
 use std::sync::Arc;
@@ -35,6 +36,7 @@ fn reduced(rt: &impl Abort, alloc: Global, book: &mut Book) -> Remainder
             Ok(remainder) => remainder,
             Err(_) => panic!(rt; "no room"),
         },
+        Err(_) => panic!(rt; "no room"),
         _ => panic!(rt; "no job"),
     }
 }
@@ -74,7 +76,8 @@ fn a_job_is_stored_once(rt: HostRuntime) {
         Ok(Published::New(version)) => {
             assert!(rt; version.number() == 1 && version.finished() == Finished::Upto(4));
         }
-        _ => panic!(rt; "no version"),
+        Err(_) => panic!(rt; "no room"),
+        Ok(Published::Full(_)) => panic!(rt; "no version"),
     }
     assert!(rt; committed(&mut book, 1, second) == Committed::Already { number: 1 });
     assert!(rt; book.entries(0) == 1 && book.entries(1) == 1);
@@ -129,7 +132,10 @@ fn the_levels_of_the_coins(rt: HostRuntime) {
     comes_to(&rt, alloc, &mut book, 6, 3, Finished::Upto(7));
     comes_to(&rt, alloc, &mut book, 8, 4, Finished::Upto(9));
     let mut least = Point::zero(alloc, 3).expect(&rt, "room");
-    assert!(rt; book.version().answer_into(&[8], &mut least).is_ok());
+    let paid = AnswerKind::Optimum {
+        costs: CostList::new(&[5]),
+    };
+    assert!(rt; book.version().answer_into(&[8], &mut least) == Ok(paid));
     assert!(rt; least.as_slice() == [1, 1, 0].as_slice());
     assert!(rt; book.version().answer_into(&[10], &mut least) == Err(NotYet { finished: 9 }));
     comes_to(&rt, alloc, &mut book, 10, 5, Finished::Upto(10));
@@ -155,11 +161,13 @@ fn the_limit_stops_before_a_grade(rt: HostRuntime) {
         _ => panic!(rt; "no mark"),
     }
     match book.step(alloc, 0, 5) {
-        Ok(Step::Reached(_)) => {}
+        Ok(Step::Reached(helped)) => {
+            assert!(rt; helped.level == Finished::Upto(5) && helped.version.number() == 2);
+        }
         _ => panic!(rt; "not reached"),
     }
     match book.step(alloc, 0, 6) {
-        Ok(Step::Full(_)) => {}
+        Ok(Step::Full(mark)) => assert!(rt; mark.grade == 6 && mark.version.number() == 2),
         _ => panic!(rt; "not full"),
     }
 }

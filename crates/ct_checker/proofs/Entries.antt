@@ -1,16 +1,18 @@
 -- The check of the entries of a ledger, one by one.
-use Rattle.std.proofs.Common.{ℕ, All, Contains, ◌+◌, ◌≤◌, ◌<◌, ◌≡◌, true, cond, Option, Some, None, List, [], ◌∷◌, map, length, drop, get_or, refl, sym, subst, ap, ap₂, ◌∙◌, arith, zero, suc}
+use Rattle.std.proofs.Common.{ℕ, All, Contains, ◌+◌, ◌≤◌, ◌<◌, ◌≡◌, true, false, not, cond, Option, Some, None, List, [], ◌∷◌, map, length, drop, get_or, refl, sym, subst, ap, ap₂, ◌∙◌, arith, zero, suc}
 use Rattle.std.specs.Option.{option_or, option_map}
-use Rattle.std.proofs.lemmas.Bool.{cond-true}
+use Rattle.std.proofs.lemmas.Bool.{cond-true, not-false}
 use Rattle.std.proofs.lemmas.List.{drop_more}
 use Rattle.std.proofs.lemmas.List.Elements.{Contains-get_or}
 use Rattle.ct_vectors.specs.Vectors.{total}
 use Rattle.ct_vectors.specs.declared.limits.TheConstants.{GRADE_LIMIT}
 use Rattle.ct_instance.specs.declared.jobs.Job.{Job}
+use Rattle.ct_instance.specs.contracts.jobs.JobPartialEq.TheImpl as derived
 use Rattle.ct_instance.specs.Instance.{Problem, IsPoint, grade_of}
 use Rattle.ct_instance.specs.TestSet.{Binomial}
-use Rattle.ct_instance.specs.Jobs.{first_end_of, second_end_of, jobs_up_to}
+use Rattle.ct_instance.specs.Jobs.{is_same_job, first_end_of, second_end_of, jobs_up_to}
 use Rattle.ct_instance.proofs.Lists.{Contains-map}
+use Rattle.ct_instance.proofs.SameJobs.{same_job_test, derived_same_job}
 use Rattle.ct_instance.proofs.JobsList.{jobs_up_to_listed}
 use Rattle.ct_walk.specs.Moves.{MoveList, IsMoveList}
 use Rattle.ct_walk.proofs.MoveFacts.{are_moves}
@@ -21,9 +23,8 @@ use Rattle.ct_ledger.specs.declared.entries.LedgerEntry.TheVariants as entry
 use Rattle.ct_checker.specs.declared.verdicts.Reason.{Reason}
 use Rattle.ct_checker.specs.declared.verdicts.Reason.TheVariants.{Entry, Coprime}
 use Rattle.ct_checker.specs.Accepted.{job_of}
-use Rattle.ct_checker.specs.Refusals.{same_job, is_coprime, end_of_steps, walks_reason, words_reason, entry_reason, refused_entry}
+use Rattle.ct_checker.specs.Refusals.{is_coprime, end_of_steps, walks_reason, words_reason, entry_reason, refused_entry}
 use Rattle.ct_checker.specs.Checking.{IsJobWithin}
-use Rattle.ct_checker.proofs.Refusals.{same_job_test}
 
 -- ---- one entry
 
@@ -40,12 +41,16 @@ walked_from i l h e j w =
     let other : MayWalk l.instance (second_end_of l.instance l.moves j) = (f.1.point, subst (λ b. total b ≤ GRADE_LIMIT) (sym f.1.degree) k.grade) in
     subst (λ x. MayWalk l.instance (first_end_of x l.moves j) × MayWalk l.instance (second_end_of x l.moves j)) e (one, other)
 
+-- what the derived comparison tells
+pub same_from_ne : (j k l : Job) → false ≡ not ((derived.ghosts).eq j k) → k ≡ l → true ≡ is_same_job j l
+same_from_ne j k l e f = sym (ap (is_same_job j) (sym f) ∙ sym (derived_same_job j k) ∙ not-false ((derived.ghosts).eq j k) (sym e))
+
 -- what is wrong with walks of the job that is next
-pub walks_wrong : (i : Problem) (ms : List Binomial) (j k : Job) (e : LedgerEntry) (first second : List (ℕ × ℕ)) → e ≡ entry.Walks k first second → true ≡ same_job j (job_of e) →
+pub walks_wrong : (i : Problem) (ms : List Binomial) (j k : Job) (e : LedgerEntry) (first second : List (ℕ × ℕ)) → e ≡ entry.Walks k first second → true ≡ is_same_job j (job_of e) →
     entry_reason i ms j e ≡ cond (is_coprime ms j) (Some Coprime) (walks_reason (end_of_steps ms (first_end_of i ms j) first) (end_of_steps ms (second_end_of i ms j) second))
 walks_wrong i ms j k e first second f t =
-    cond-true (same_job j (job_of e)) (words_reason i ms e) (Some Entry) (sym t) ∙ ap (words_reason i ms) f ∙
-    ap (λ x. words_reason i ms (entry.Walks x first second)) (sym ((same_job_test j k).0 (sym (t ∙ ap (λ x. same_job j (job_of x)) f))))
+    cond-true (is_same_job j (job_of e)) (words_reason i ms e) (Some Entry) (sym t) ∙ ap (words_reason i ms) f ∙
+    ap (λ x. words_reason i ms (entry.Walks x first second)) (sym ((same_job_test j k).0 (sym (t ∙ ap (λ x. is_same_job j (job_of x)) f))))
 
 -- the jobs up to a grade within the limit may be walked from
 pub jobs_within : (i : Problem) (ms : List Binomial) (g : ℕ) (js : List GradedJob) → map (λ j. j.job) js ≡ jobs_up_to i ms g → g ≤ GRADE_LIMIT → All (λ j. IsJobWithin i ms j.job) js
@@ -70,15 +75,8 @@ module _ (i : Problem) (ms : List Binomial) (js : List GradedJob) (es : List Led
   abbrev left : Option (ℕ × Reason)
   left = refused_entry i ms n (jobs_left js k) (drop k es)
 
-  pub entry_next : (d : GradedJob) (e : LedgerEntry) → k < length js → k < length es →
-      left ≡ option_or (option_map {U = ℕ × Reason} (λ r. (n, r)) (entry_reason i ms (get_or js k d).job (get_or es k e))) (refused_entry i ms (n + 1) (jobs_left js (k + 1)) (drop (k + 1) es))
-  entry_next d e l h = ap₂ (λ xs ys. refused_entry i ms n (map (λ j. j.job) xs) ys) (drop_more js k d l) (drop_more es k e h)
-
   pub entry_beyond : (e : LedgerEntry) → length js ≤ k → k < length es → left ≡ Some (n, Entry)
   entry_beyond e l h = ap₂ (λ xs ys. refused_entry i ms n (map (λ j. j.job) xs) ys) (drop_all js k l) (drop_more es k e h)
 
   pub entry_missing : (d : GradedJob) → k < length js → length es ≤ k → left ≡ Some (n, Entry)
   entry_missing d l h = ap₂ (λ xs ys. refused_entry i ms n (map (λ j. j.job) xs) ys) (drop_more js k d l) (drop_all es k h)
-
-  pub entries_done : length js ≤ k → length es ≤ k → left ≡ None
-  entries_done l h = ap₂ (λ xs ys. refused_entry i ms n (map (λ j. j.job) xs) ys) (drop_all js k l) (drop_all es k h)

@@ -16,7 +16,8 @@ use Rattle.ct_instance.specs.Instance.{Problem, column_count, degree_of, grade_o
 use Rattle.ct_instance.specs.Fiber.{is_lower}
 use Rattle.ct_instance.specs.TestSet.{Binomial}
 use Rattle.ct_instance.specs.Walk.{moved}
-use Rattle.ct_instance.specs.Jobs.{the_move, first_end_of, second_end_of, IsCoprime, jobs_up_to}
+use Rattle.ct_instance.specs.Jobs.{the_move, is_same_job, first_end_of, second_end_of, IsCoprime, jobs_up_to}
+use Rattle.ct_instance.proofs.SameJobs.{same_job_test}
 use Rattle.ct_walk.specs.Moves.{CanApply, Follows}
 use Rattle.ct_checker.specs.declared.verdicts.Reason.{Reason}
 use Rattle.ct_checker.specs.declared.verdicts.Reason.TheVariants.{Size, Grade, Degree, Order, Entry, Coprime, End}
@@ -24,33 +25,12 @@ use Rattle.ct_ledger.specs.declared.entries.LedgerEntry.{LedgerEntry}
 use Rattle.ct_ledger.specs.declared.entries.LedgerEntry.TheVariants as entry
 use Rattle.ct_ledger.specs.Parts.{LedgerParts}
 use Rattle.ct_checker.specs.Accepted.{moves_of, job_of, IsLedgerMove, AreWalks, IsEntryRight, IsAccepted}
-use Rattle.ct_checker.specs.Refusals.{same_numbers, same_job, is_coprime, can_apply, end_of_steps, move_reason, walks_reason, words_reason, entry_reason, refused_move, refused_entry, refused_size, first_refusal_of}
+use Rattle.ct_checker.specs.Refusals.{same_numbers, is_coprime, can_apply, end_of_steps, move_reason, walks_reason, words_reason, entry_reason, refused_move, refused_entry, refused_size, first_refusal_of}
 
 -- ---- the tests
 
 pub same_numbers_test : (p q : List ℕ) → Decides (same_numbers p q) (p ≡ q)
 same_numbers_test p q = slice_eq-Decides Decides-eqb p q (pointwise nat_eq p q) refl
-
-abbrev is_generator : Job → Bool
-is_generator (Generator a) = true
-is_generator (Pair a b) = false
-
-abbrev first_of : Job → ℕ
-first_of (Generator a) = a
-first_of (Pair a b) = a
-
-abbrev second_of : Job → ℕ
-second_of (Generator a) = 0
-second_of (Pair a b) = b
-
-pub same_job_test : (j k : Job) → Decides (same_job j k) (j ≡ k)
-same_job_test (Generator a) (Generator b) = (λ e. ap Generator (eqb-true a b e), λ e. eq-eqb a b (ap first_of e))
-same_job_test (Generator a) (Pair b c) = (λ e. absurd (true≢false (sym e)), λ e. absurd (true≢false (ap is_generator e)))
-same_job_test (Pair a b) (Generator c) = (λ e. absurd (true≢false (sym e)), λ e. absurd (true≢false (sym (ap is_generator e))))
-same_job_test (Pair a b) (Pair c d) = (
-  λ e. let u = and_parts (nat_eq a c) (nat_eq b d) e in ap₂ Pair (eqb-true a c u.0) (eqb-true b d u.1),
-  λ e. and_from (nat_eq a c) (nat_eq b d) (eq-eqb a c (ap first_of e)) (eq-eqb b d (ap second_of e)),
-)
 
 pub coprime_test : (ms : List Binomial) (j : Job) → Decides (is_coprime ms j) (IsCoprime ms j)
 coprime_test ms (Generator j) = (λ e. absurd (true≢false (sym e)), λ c. absurd c)
@@ -227,7 +207,7 @@ module _ (i : Problem) (ms : List Binomial) where
           there : refused_entry i ms n (j ∷ js) (e ∷ es) ≡ None → (map job_of (e ∷ es) ≡ j ∷ js) × All (IsEntryRight i ms) (e ∷ es)
           there f =
               let b = both_none (placed n (entry_reason i ms j e)) (refused_entry i ms (n + 1) js es) f in
-              let c = passes_none (same_job j (job_of e)) Entry (words_reason i ms e) (none_placed n (entry_reason i ms j e) b.0) in
+              let c = passes_none (is_same_job j (job_of e)) Entry (words_reason i ms e) (none_placed n (entry_reason i ms j e) b.0) in
               let r = later.0 b.1 in
               (ap₂ (λ x y. x ∷ y) (sym ((same_job_test j (job_of e)).0 c.0)) r.0, All-cons (IsEntryRight i ms) e es ((words_right e).0 c.1) r.1)
 
@@ -238,7 +218,7 @@ module _ (i : Problem) (ms : List Binomial) where
               let rest : map job_of es ≡ js = cc in
               ap₂ option_or
               (ap (placed n)
-              (cond-true (same_job j (job_of e)) (words_reason i ms e) (Some Entry) ((same_job_test j (job_of e)).1 here) ∙ (words_right e).1 (All-head (IsEntryRight i ms) e es a.1)))
+              (cond-true (is_same_job j (job_of e)) (words_reason i ms e) (Some Entry) ((same_job_test j (job_of e)).1 here) ∙ (words_right e).1 (All-head (IsEntryRight i ms) e es a.1)))
               (later.1 (rest, All-tail (IsEntryRight i ms) e es a.1))
 
 -- ---- the whole ledger

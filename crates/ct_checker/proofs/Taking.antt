@@ -18,36 +18,6 @@ use Rattle.ct_checker.specs.declared.stops.CheckStop.TheVariants as stop
 use Rattle.ct_checker.specs.Checking.{as_move, reason_for, IsRefusedBy}
 use Rattle.ct_checker.proofs.Refusals.{same_numbers_test}
 
--- a fault of two points is the reason why their move is refused
-pub fault_refuses : (i : Problem) (g : ℕ) (head tail : List ℕ) (e : MoveFault) → IsFault i g head tail e → move_reason i g (as_move (head, tail)) ≡ Some (reason_for e)
-fault_refuses i g head tail e f = go e f
-  where
-    above : Bool
-    above = nat_lt g (grade_of i.columns head)
-
-    same : Bool
-    same = same_numbers (degree_of i.columns tail) (degree_of i.columns head)
-
-    lower : Bool
-    lower = is_lower i tail head
-
-    later : Option Reason
-    later = cond (not lower) (Some Order) None
-
-    within : grade_of i.columns head ≤ g → move_reason i g (as_move (head, tail)) ≡ cond (not same) (Some Degree) later
-    within l = cond-false above (Some Grade) (cond (not same) (Some Degree) later) (le-ltb g (grade_of i.columns head) l)
-
-    go : (e : MoveFault) → IsFault i g head tail e → move_reason i g (as_move (head, tail)) ≡ Some (reason_for e)
-    go fault.Grade f = cond-true above (Some Grade) (cond (not same) (Some Degree) later) (lt-ltb g (grade_of i.columns head) f)
-    go fault.Degree f =
-        within f.0 ∙
-        cond-true (not same) (Some Degree) later
-        (ap not (false_from_ne_true same (λ t. f.1 ((same_numbers_test (degree_of i.columns tail) (degree_of i.columns head)).0 t))))
-    go fault.Order f =
-        within f.0 ∙ cond-false (not same) (Some Degree) later (ap not ((same_numbers_test (degree_of i.columns tail) (degree_of i.columns head)).1 f.1)) ∙
-        cond-true (not lower) (Some Order) None
-        (ap not (false_from_ne_true lower (λ t. f.2 (Less-from_test (refined_order (column_count i) i.cost_rows tail head) t))))
-
 -- what is refused first of the moves from the k-th on
 pub move_left : (i : Problem) (g : ℕ) (pairs : List (List ℕ × List ℕ)) (k : ℕ) (d : List ℕ × List ℕ) → k < length pairs →
     refused_move i g (4 + k) (map as_move (drop k pairs)) ≡

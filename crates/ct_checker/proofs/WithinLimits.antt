@@ -54,15 +54,6 @@ steps_within i s ms a few p q e l (t ∷ steps) f =
 pub walk_within : (l : MoveList) → IsMoveList l → (p q : List ℕ) → IsPoint l.instance p → grade_of l.instance.columns p ≤ GRADE_LIMIT → (steps : List (ℕ × ℕ)) → IsWalk l.moves p steps q → AreSteps steps
 walk_within l h p q e g steps w = steps_within l.instance h.instance l.moves (are_moves l h) h.most p q e g steps (walk_follows l.moves p q steps w)
 
--- the numbers of a job are within the limit
-pub job_numbers : (i : Problem) → IsInstance i → (ms : List Binomial) → length ms ≤ MOVE_LIMIT → (j : Job) → IsJob i ms j → HasNumbers j
-job_numbers i s ms few (Generator j) k = let l : j ≤ column_count i = k.1 in (k.0, omega (arith, s.column_limit))
-job_numbers i s ms few (Pair a b) k =
-    let first : 1 ≤ a = k.0 in
-    let between : a < b = k.1 in
-    let last : b ≤ length ms = k.2 in
-    ((first, omega (arith, few)), (omega arith, omega (arith, few)))
-
 -- one more move of a list that is put in as pairs
 pub pairs_more : (ms : List Binomial) (k : ℕ) (m : Binomial) → k < length ms → m ≡ the_move ms (k + 1) → map pair_of (take k ms) ++ pair_of m ∷ [] ≡ map pair_of (take (k + 1) ms)
 pairs_more ms k m l e =

@@ -10,7 +10,7 @@ use Rattle.ct_instance.specs.Instance.{Problem, column_count, degree_of, grade_o
 use Rattle.ct_instance.specs.Fiber.{is_lower}
 use Rattle.ct_instance.specs.TestSet.{Binomial}
 use Rattle.ct_instance.specs.Walk.{moved}
-use Rattle.ct_instance.specs.Jobs.{the_move, first_end_of, second_end_of, jobs_up_to}
+use Rattle.ct_instance.specs.Jobs.{the_move, is_same_job, first_end_of, second_end_of, jobs_up_to}
 use Rattle.ct_checker.specs.declared.verdicts.Reason.{Reason}
 use Rattle.ct_checker.specs.declared.verdicts.Reason.TheVariants.{Size, Grade, Degree, Order, Entry, Coprime, Step, End}
 use Rattle.ct_ledger.specs.declared.entries.LedgerEntry.{LedgerEntry}
@@ -20,12 +20,6 @@ use Rattle.ct_checker.specs.Accepted.{moves_of, job_of}
 
 abbrev pub same_numbers : List ℕ → List ℕ → Bool
 same_numbers p q = pointwise nat_eq p q
-
-abbrev pub same_job : Job → Job → Bool
-same_job (Generator a) (Generator b) = nat_eq a b
-same_job (Generator a) (Pair b c) = false
-same_job (Pair a b) (Generator c) = false
-same_job (Pair a b) (Pair c d) = nat_eq a c && nat_eq b d
 
 -- the pair's heads share no variable, as a test
 abbrev pub is_coprime : List Binomial → Job → Bool
@@ -62,7 +56,7 @@ words_reason i ms (entry.Walks j first second) =
 
 -- what is wrong with an entry where this job is next
 abbrev pub entry_reason : Problem → List Binomial → Job → LedgerEntry → Option Reason
-entry_reason i ms j e = cond (same_job j (job_of e)) (words_reason i ms e) (Some Entry)
+entry_reason i ms j e = cond (is_same_job j (job_of e)) (words_reason i ms e) (Some Entry)
 
 -- the first refused line: of the moves that begin in line n
 abbrev pub refused_move : Problem → ℕ → ℕ → List Binomial → Option (ℕ × Reason)

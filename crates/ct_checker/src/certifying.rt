@@ -47,6 +47,7 @@ fn put_moves(alloc: Global, moves: &Moves, ledger: &mut Ledger) -> Result<(), Al
     requires none { ledger.old.moves ≡ [] }
     ensures { OnOk result (ledger.new ≡ record ledger.old { moves = map pair_of moves.now.moves }) }
 {
+    // For its facts alone: these are moves of the instance, within the limits.
     let _inst = moves.instance();
     for k in 0..moves.len() {
         let mv = moves.get(k + 1);
@@ -90,6 +91,7 @@ fn entry_of(
     ensures entry { IfOk result IsEntry }
     ensures certified { IfOk result (IsCertifiedEntry inst.now moves.now.moves) }
 {
+    // For its facts alone: these are moves of the instance, within the limits.
     let _inst = moves.instance();
     if coprime(moves, job) {
         return Ok(LedgerEntry::Coprime(job));
@@ -107,6 +109,7 @@ fn steps_from(alloc: Global, moves: &Moves, p: Point) -> Result<Seq<(u32, u64)>,
     ensures walk { IfOk result (IsWalkOf moves.now.moves p) }
     ensures steps { IfOk result AreSteps }
 {
+    // For its facts alone: these are moves of the instance, within the limits.
     let _inst = moves.instance();
     let (steps, _end) = walk(alloc, moves, p)?.into_parts();
     Ok(Seq::from_vec(steps))

@@ -32,6 +32,7 @@ pub fn check(alloc: Global, inst: &Arc<Instance>, ledger: &Ledger) -> Result<Ver
     ensures accepted { IfOk result (λ v. IsAcceptance v ↔ IsAccepted (arc_value inst.now) ledger.now) }
     ensures decides { IfOk result (λ v. IsAcceptance v → (b : List ℕ) → IsRight (arc_value inst.now) b → total b ≤ ledger.now.grade → HasOneNormalPoint (arc_value inst.now) (moves_of ledger.now) b) }
 {
+    // For its facts alone: the instance is within the limits.
     let _rows = inst.rows();
     match check_lines(alloc, inst, ledger) {
         Ok(()) => Ok(accepted(ledger)),

@@ -3,7 +3,7 @@ ghost use Rattle.std.specs.Prelude.{◌≡◌, ◌≤◌, ◌+◌, None, Some, c
 ghost use Rattle.ct_vectors.specs.declared.limits.TheConstants.{GRADE_LIMIT};
 ghost use Rattle.ct_instance.specs.Instance.{IsPoint, grade_of};
 ghost use Rattle.ct_instance.specs.Jobs.{IsJob};
-ghost use Rattle.ct_checker.specs.Refusals.{same_numbers, same_job, is_coprime, end_of_steps, walks_reason, entry_reason, refused_entry};
+ghost use Rattle.ct_checker.specs.Refusals.{same_numbers, is_coprime, end_of_steps, walks_reason, entry_reason, refused_entry};
 ghost use Rattle.ct_checker.specs.declared.verdicts.Reason.TheVariants.{Coprime};
 ghost use Rattle.ct_checker.specs.Accepted.{job_of as job_named};
 ghost use Rattle.ct_checker.specs.Checking.{IsRefusedBy, IsJobWithin};
@@ -68,8 +68,9 @@ fn wrong_with(
     ensures first_point { IsPoint inst.now first.new }
     ensures second_point { IsPoint inst.now second.new }
 {
+    // For its facts alone: these are moves of the instance, within the limits.
     let _inst = moves.instance();
-    if !is_same_job(job, job_of(entry)) {
+    if job != job_of(entry) {
         return Some(Reason::Entry);
     }
     match entry {
@@ -91,17 +92,6 @@ fn job_of(entry: &LedgerEntry) -> Job
     match entry {
         LedgerEntry::Coprime(job) => *job,
         LedgerEntry::Walks(job, _, _) => *job,
-    }
-}
-
-// Whether they are one job.
-fn is_same_job(a: Job, b: Job) -> bool
-    ensures { result ≡ same_job a b }
-{
-    match (a, b) {
-        (Job::Generator(j), Job::Generator(k)) => j == k,
-        (Job::Pair(i, k), Job::Pair(j, l)) => i == j && k == l,
-        _ => false,
     }
 }
 
@@ -153,6 +143,7 @@ fn leads(moves: &Moves, p: &mut Point, steps: &[(u32, u64)]) -> bool
     ensures end { end_of_steps moves.now.moves p.old steps.now ≡ cond result (Some p.new) None }
     ensures point { IsPoint moves.now.instance p.new }
 {
+    // For its facts alone: these are moves of the instance, within the limits.
     let _inst = moves.instance();
     match follow(moves, p, steps) {
         Ok(()) => true,

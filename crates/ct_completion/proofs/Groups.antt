@@ -23,7 +23,7 @@ use Rattle.ct_instance.specs.Jobs.{the_move, IsJob, job_degree_of, job_grade_of,
 use Rattle.ct_instance.proofs.Lists.{Contains-filter, filter_gives, Contains-map, map_gives, Contains-flat_map, flat_map_gives}
 use Rattle.ct_instance.proofs.Degree.{columns, degree-add, degree_is_right, grade-add, grade-divides, zeros_from_grade}
 use Rattle.ct_instance.proofs.Fiber.{in_own_fiber, rank_of, rank_falls, points_cases, below_itself, below_chain, below_differs, one_least, is_least_of, not_below_least, least_or_improvable, least_not_improvable}
-use Rattle.ct_instance.proofs.TestHeads.{has_test_head, minimal_is}
+use Rattle.ct_instance.proofs.TestHeads.{has_test_head, minimal_is, test_move_is_move}
 use Rattle.ct_walk.specs.Laws.{HasOneNormalPoint}
 use Rattle.ct_walk.proofs.Steps.{move_at_listed, dividing_gives, normal_none, normal_from_none, move_at-append}
 use Rattle.ct_walk.proofs.Runs.{IsSwap, Runs, halt, swap, Meet, meet_itself, run_on, run_down, pair_end, pair_end_second}
@@ -138,15 +138,6 @@ pub record IsLeft (i : Problem) (ms : List Binomial) (points : List (List ℕ)) 
   pub first_run : Runs i ms (first_end_of i ms j) first
   pub second_run : Runs i ms (second_end_of i ms j) second
   pub left : (first ≡ second) ⊎ (Contains points first × Contains points second)
-
-pub test_move_is_move : (i : Problem) (m : Binomial) → IsTestMove i m → IsMove i m
-test_move_is_move i m u = record {
-  head = u.head.point;
-  tail = u.tail.member.point;
-  degree = u.tail.member.degree;
-  below = u.tail.below m.head (in_own_fiber i m.head u.head.point)
-      (λ e. least_not_improvable i (degree_of i.columns m.head) m.head (subst (IsLeast i (degree_of i.columns m.head)) (sym e) u.tail) u.head.improvable);
-}
 
 module _ (i : Problem) (s : IsInstance i) (Within : List ℕ → Type 0) (parts : (a b : List ℕ) → Within (add a b) → Within b)
     (g : ℕ) (ms : List Binomial) (test : IsTestListWithin i Within g ms)

@@ -17,6 +17,7 @@ use Rattle.ct_instance.proofs.Lists.{Contains-here, Contains-there, Contains-con
 use Rattle.ct_instance.proofs.Ordered.{InOrder-append, InOrder-pairs, InOrder-from_pairs}
 use Rattle.ct_instance.proofs.JobsList.{jobs_of_grade_listed}
 use Rattle.ct_instance.proofs.TestList.{test_lists, is_test_list, move_is_sound, move_of_head, same_move}
+use Rattle.ct_instance.proofs.TestHeads.{test_move_is_move}
 use Rattle.ct_walk.proofs.Steps.{leads_down}
 use Rattle.ct_walk.proofs.Runs.{leads_run}
 use Rattle.ct_walk.proofs.Ends.{ends_in_fiber}
@@ -26,7 +27,7 @@ use Rattle.ct_levels.proofs.Full.{list_at_level}
 use Rattle.ct_completion.specs.Machine.{opened_jobs}
 use Rattle.ct_completion.specs.Remainders.{AreRemainders, points_of, IsGroupMove}
 use Rattle.ct_completion.proofs.Replay.{opened_level}
-use Rattle.ct_completion.proofs.Groups.{IsTestListWithin, IsMark, IsLeft, test_move_is_move, test_move_in_group, group_move_tests}
+use Rattle.ct_completion.proofs.Groups.{IsTestListWithin, IsMark, IsLeft, test_move_in_group, group_move_tests}
 
 -- ---- the points of remainders
 

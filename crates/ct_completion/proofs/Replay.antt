@@ -13,6 +13,8 @@ use Rattle.ct_instance.specs.Instance.{Problem, IsInstance}
 use Rattle.ct_instance.specs.TestSet.{test_list}
 use Rattle.ct_instance.specs.Versions.{Level, upto, everything, level_of, version_list, IsVersion, IsFullGrade}
 use Rattle.ct_instance.specs.Reach.{grade_after, opened_grade}
+use Rattle.ct_instance.specs.Jobs.{is_same_job}
+use Rattle.ct_instance.proofs.SameJobs.{same_job_test}
 use Rattle.ct_instance.proofs.Lists.{Contains-here, Contains-there, Contains-nil, count_by-cons}
 use Rattle.ct_levels.proofs.Levels.{list_zero, list_next}
 use Rattle.ct_levels.proofs.Full.{opened_is_full}
@@ -23,35 +25,6 @@ use Rattle.ct_completion.specs.Machine.{CompletionState, CompletionEvent, hands_
 use Rattle.ct_completion.specs.Journal.{act_of, acts_of, number_after, is_publishing, Replays, opens, acts, AreAlike, IsReplay, AreSerials, entries_of}
 use Rattle.ct_completion.specs.Laws.{IsReached}
 use Rattle.ct_completion.proofs.Permutations.{split_at, take_from_both}
-
--- ---- jobs that are the same
-
-abbrev same_job : Job → Job → Bool
-same_job (Generator a) (Generator b) = nat_eq a b
-same_job (Generator a) (Pair b c) = false
-same_job (Pair a b) (Generator c) = false
-same_job (Pair a b) (Pair c d) = nat_eq a c && nat_eq b d
-
-abbrev is_generator : Job → Bool
-is_generator (Generator a) = true
-is_generator (Pair a b) = false
-
-abbrev first_of : Job → ℕ
-first_of (Generator a) = a
-first_of (Pair a b) = a
-
-abbrev second_of : Job → ℕ
-second_of (Generator a) = 0
-second_of (Pair a b) = b
-
-same_job_tests : (j k : Job) → Decides (same_job j k) (j ≡ k)
-same_job_tests (Generator a) (Generator b) = (λ e. ap Generator (eqb-true a b e), λ e. eq-eqb a b (ap first_of e))
-same_job_tests (Generator a) (Pair b c) = (λ e. absurd (true≢false (sym e)), λ e. absurd (true≢false (ap is_generator e)))
-same_job_tests (Pair a b) (Generator c) = (λ e. absurd (true≢false (sym e)), λ e. absurd (true≢false (sym (ap is_generator e))))
-same_job_tests (Pair a b) (Pair c d) = (
-  λ e. let u = and_parts (nat_eq a c) (nat_eq b d) e in ap₂ Pair (eqb-true a c u.0) (eqb-true b d u.1),
-  λ e. and_from (nat_eq a c) (nat_eq b d) (eq-eqb a c (ap first_of e)) (eq-eqb b d (ap second_of e)),
-)
 
 -- ---- states that are alike
 
@@ -100,7 +73,7 @@ alike_steps i limit s r (stores j) t u a p q =
     subst₂ AreAlike (sym p.3) (sym q.3)
     (record {
       number = a.number;
-      queue = take_from_both same_job same_job_tests j p.0 p.1 q.0 q.1 (subst₂ IsPermutation p.2 q.2 a.queue);
+      queue = take_from_both is_same_job same_job_test j p.0 p.1 q.0 q.1 (subst₂ IsPermutation p.2 q.2 a.queue);
       full = a.full;
     })
 alike_steps i limit s r (already n j) t u a p q = subst₂ AreAlike (sym p.1) (sym q.1) a

@@ -1,6 +1,7 @@
 -- The definitions on a worked example, by computation: two coins of 3 and 5 at cost 2 and 3.
 use Rattle.std.proofs.Common.{ℕ, ◌<◌, pos, true, false, ◌≡◌, ⊎_elim, Option, Some, None, List, [], ◌∷◌, map, get_or, refl, sym, subst, arith, lit≤, zero, suc}
 use Rattle.ct_vectors.proofs.Sums.{cons_head}
+use Rattle.ct_vectors.specs.declared.limits.TheConstants.{MOVE_LIMIT}
 use Rattle.ct_instance.specs.declared.jobs.Job.{Job}
 use Rattle.ct_instance.specs.declared.jobs.Job.TheVariants.{Generator, Pair}
 use Rattle.ct_instance.specs.Instance.{Problem}
@@ -28,7 +29,7 @@ abbrev journal : List Entry
 journal = record { pass = 0; serial = 0; act = Stored (Generator 1) } ∷ record { pass = 1; serial = 0; act = Published 1 } ∷ []
 
 -- one job stored and one version published: the state of version 1
-first_version : Replays coins 4096 journal (just_opened coins 1)
+first_version : Replays coins MOVE_LIMIT journal (just_opened coins 1)
 unfolding opened_jobs level_of level_after version_list test_list test_moves_at lists_of least_of fiber_of all_jobs jobs_at
 first_version =
     acts (record { pass = 0; serial = 0; act = Stored (Generator 1) } ∷ []) (record { number = 0; queue = []; full = false }) publishes
@@ -64,7 +65,7 @@ first_move = record {
 }
 
 -- nothing is published while a job is out
-not_yet : (t : CompletionState) → CompletionStep coins 4096 (just_opened coins 0) publishes t → ⊥
+not_yet : (t : CompletionState) → CompletionStep coins MOVE_LIMIT (just_opened coins 0) publishes t → ⊥
 unfolding opened_jobs level_of level_after version_list test_list test_moves_at lists_of least_of fiber_of all_jobs jobs_at
 not_yet t p = let none : Generator 1 ∷ [] ≡ [] = (p.1).resolved in absurd (cc)
 

@@ -1,6 +1,8 @@
-//! Answers each example in a folder by its real files, and compares what is written with the example's output.txt.
+//! Answers each example in a folder by its real files, and compares what is written with the example's output.txt, and
+//! with walks with its walks.txt.
 //!
-//! The one argument is the folder of examples. The gate gives it this crate's data/, to which `examples/` links.
+//! The one argument is the folder of examples. The gate gives it this crate's data/, to which `examples/` links. The
+//! two files of an example are texts, `.txt`, or JSON, `.json`.
 #![tactic(auto)]
 
 use anyhow::{Context, Result};
@@ -10,14 +12,27 @@ use std::alloc::Global;
 use std::rt::Files;
 use std::{env, fs};
 
-// Whether `ct answer` ends with Done for the example in this folder, and writes what its output.txt has.
-fn is_answered<R: Files + AllocGlobal>(rt: &R, folder: &str) -> Result<bool> {
+// Whether `ct answer` with these options ends with Done for the example in this folder, and writes what this file has.
+fn is_answered<R: Files + AllocGlobal>(
+    rt: &R,
+    folder: &str,
+    options: &[&str],
+    stored: &str,
+) -> Result<bool> {
     let alloc = rt.alloc();
+    let form = if fs::exists(rt, format!(in alloc; "{folder}/instance.json")?)? {
+        "json"
+    } else {
+        "txt"
+    };
     let mut words = Vec::new(alloc);
     words.push(String::from_str(alloc, "answer")?)?;
-    words.push(format!(in alloc; "{folder}/instance.txt")?)?;
-    words.push(format!(in alloc; "{folder}/sessions.txt")?)?;
-    let wanted = fs::read(rt, format!(in alloc; "{folder}/output.txt")?)?;
+    for option in options {
+        words.push(String::from_str(alloc, option)?)?;
+    }
+    words.push(format!(in alloc; "{folder}/instance.{form}")?)?;
+    words.push(format!(in alloc; "{folder}/sessions.{form}")?)?;
+    let wanted = fs::read(rt, format!(in alloc; "{folder}/{stored}")?)?;
     let mut out = MemSink::new(alloc, 4096, 1_048_576)?;
     let status = run_plain(alloc, &words, &mut FileShelf::new(rt, alloc), &mut out);
     Ok(status == Status::Done && out.held() == wanted.as_slice())
@@ -32,7 +47,9 @@ fn main(rt: HostRuntime) -> Result<()> {
     }
     names.sort()?;
     for name in &names {
-        let said = if is_answered(&rt, format!(in alloc; "{folder}/{name}")?.as_str())? {
+        let example = format!(in alloc; "{folder}/{name}")?;
+        let plain = is_answered(&rt, example.as_str(), &[], "output.txt")?;
+        let said = if plain && is_answered(&rt, example.as_str(), &["--walks"], "walks.txt")? {
             "answered as stored"
         } else {
             "answered otherwise"

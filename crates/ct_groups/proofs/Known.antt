@@ -6,7 +6,7 @@ use Rattle.std.specs.Ordering.{nat_cmp}
 use Rattle.std.proofs.lemmas.Bool.{cases_lt, false_from_ne_true}
 use Rattle.std.proofs.lemmas.List.{get_or_default, get_or-map, length-map}
 use Rattle.std.proofs.lemmas.Map.Lookups.{exact_bytes}
-use Rattle.ct_vectors.specs.declared.limits.TheConstants.{GRADE_LIMIT, JOB_GRADE_LIMIT}
+use Rattle.ct_vectors.specs.declared.limits.TheConstants.{GRADE_LIMIT, JOB_GRADE_LIMIT, WIDTH_LIMIT}
 use Rattle.ct_order.specs.Order.{refined_order}
 use Rattle.ct_instance.specs.Instance.{column_count, Problem, IsInstance, IsPoint, grade_of}
 use Rattle.ct_instance.specs.Fiber.{is_lower, IsBelow}
@@ -15,7 +15,7 @@ use Rattle.ct_instance.proofs.Fiber.{below_itself, below_chain}
 use Rattle.ct_groups.specs.Groups.{points_seen, IsSmallPoint, key_of, KnowsLeast, IsLeastOf}
 
 -- the width of a point is within the limits of points
-pub point_width : (i : Problem) → IsInstance i → (p : List ℕ) → IsPoint i p → (1 ≤ length p) × (length p ≤ 80)
+pub point_width : (i : Problem) → IsInstance i → (p : List ℕ) → IsPoint i p → (1 ≤ length p) × (length p ≤ WIDTH_LIMIT)
 point_width i s p e = (omega (arith, e, s.some_row), omega (arith, e, s.row_limit, s.column_limit))
 
 pub walk_coordinates : (i : Problem) → IsInstance i → (p : List ℕ) → grade_of i.columns p ≤ GRADE_LIMIT → All (λ x. x ≤ GRADE_LIMIT) p

@@ -57,6 +57,7 @@ fn push_pair<'a>(
     requires pairs { HasPairs inst.now (points_seen points.now) k pairs.old.items }
     ensures { OnOk result (HasPairs inst.now (points_seen points.now) (k + 1) pairs.new.items) }
 {
+    // For its facts alone: the instance is within the limits.
     let _rows = inst.rows();
     let head = points[k];
     let tail = points[place];
@@ -99,6 +100,7 @@ fn move_of(alloc: Global, inst: &Instance, pair: &Pair<'_>) -> Result<Move, Allo
     requires { IsSmallMove inst.now (pair_seen pair.now) }
     ensures { IfOk result (λ m. m ≡ pair_seen pair.now) }
 {
+    // For its facts alone: the instance is within the limits.
     let _rows = inst.rows();
     let head = Point::from_slice(alloc, pair.head)?;
     let tail = Point::from_slice(alloc, pair.tail)?;

@@ -1,5 +1,5 @@
 -- The bits of rows, masks and candidates, one step of each loop.
-use Rattle.std.proofs.Common.{ℕ, ◌+◌, ◌-◌, ◌*◌, ◌/◌, ◌%◌, ◌^◌, ◌≤◌, ◌<◌, ◌≡◌, ◌≢◌, ◌⊎◌, ◌↔◌, inl, inr, ⊎_elim, min, max, List, [], length, get_or, refl, sym, ◌∙◌, subst, ap, arith, set, zero, suc}
+use Rattle.std.proofs.Common.{ℕ, ◌+◌, ◌-◌, ◌*◌, ◌/◌, ◌%◌, ◌^◌, ◌≤◌, ◌<◌, ◌≡◌, ◌≢◌, ◌⊎◌, ◌↔◌, inl, inr, min, max, List, length, get_or, sym, ◌∙◌, subst, ap, arith, set, zero, suc}
 use Rattle.std.specs.Int.{bit_at, w128, trailing_zeros}
 use Rattle.std.specs.Int.RustNames.{bit_or}
 use lib.Bits.{bit_and}
@@ -14,12 +14,6 @@ pub bit_cases : (n j : ℕ) → (bit_at n j ≡ 0) ⊎ (bit_at n j ≡ 1)
 bit_cases n j = let l : bit_at n j < 2 = bit_at-lt n j in grind arith
 
 -- ---- the rows where a point is looked up
-
-pub excluded_none : (rows places : List ℕ) → IsExcluded rows places 0 0
-excluded_none rows places = record {
-  some = λ j b. let z : bit_at 0 j ≡ 0 = bit_at-zero j in absurd (omega arith);
-  all = λ j q l b. absurd (omega arith);
-}
 
 pub excluded_more : (rows places : List ℕ) (n out row : ℕ) → row ≡ get_or rows (get_or places n 0) 0 → IsExcluded rows places n out → IsExcluded rows places (n + 1) (bit_or out row)
 excluded_more rows places n out row is e = record {
@@ -49,9 +43,6 @@ excluded_more rows places n out row is e = record {
 abbrev pub AreMarkedTo : List ℕ → List ℕ → List ℕ → ℕ → ℕ → Type 0
 AreMarkedTo old new head index n =
     (r j : ℕ) → (bit_at (get_or new r 0) j ≡ 1) ↔ ((bit_at (get_or old r 0) j ≡ 1) ⊎ ((r < n) × (j ≡ index) × IsAbove head r))
-
-pub marked_none : (rows head : List ℕ) (index : ℕ) → AreMarkedTo rows rows head index 0
-marked_none rows head index r j = (λ b. inl b, λ e. elim e [ inl b ↦ b | inr m ↦ absurd (omega (arith, m.0)) ])
 
 -- the row n isn't one of the head's
 pub marked_not : (old new head : List ℕ) (index n : ℕ) → (IsAbove head n → ⊥) → AreMarkedTo old new head index n → AreMarkedTo old new head index (n + 1)
@@ -115,9 +106,6 @@ marked_all old new head index n m r j l = (
 -- as IsSupport, of the coordinates below n alone
 abbrev pub IsSupportTo : List ℕ → ℕ → ℕ → Type 0
 IsSupportTo p n mask = (i : ℕ) → (bit_at mask i ≡ 1) ↔ ((i < n) × (0 < get_or p i 0))
-
-pub support_none : (p : List ℕ) → IsSupportTo p 0 0
-support_none p i = (λ b. let z : bit_at 0 i ≡ 0 = bit_at-zero i in absurd (omega arith), λ x. absurd (omega (arith, x.0)))
 
 pub support_not : (p : List ℕ) (n mask : ℕ) → get_or p n 0 ≡ 0 → IsSupportTo p n mask → IsSupportTo p (n + 1) mask
 support_not p n mask none s i = (

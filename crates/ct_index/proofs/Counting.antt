@@ -1,9 +1,8 @@
 -- How many times a head fits, coordinate by coordinate of its support.
-use Rattle.std.proofs.Common.{ℕ, ◌+◌, ◌-◌, ◌*◌, ◌/◌, ◌^◌, ◌≤◌, ◌<◌, ◌≡◌, ◌⊎◌, inl, inr, min, List, [], ◌∷◌, length, get_or, refl, sym, ◌∙◌, subst, ap, arith, zero, suc, mul-le-mul_right, mul-le-mul_left}
+use Rattle.std.proofs.Common.{ℕ, ◌-◌, ◌*◌, ◌/◌, ◌^◌, ◌≤◌, ◌<◌, ◌≡◌, inl, inr, min, List, [], ◌∷◌, get_or, sym, ◌∙◌, subst, ap, arith, zero, suc, mul-le-mul_right, mul-le-mul_left}
 use Rattle.std.specs.Int.{bit_at}
 use lib.Bits.{bit_and}
-use Rattle.std.proofs.Math.Nat.{div-mul-le_self, le-div_iff_mul-le, mul-le-mul}
-use Rattle.std.proofs.lemmas.List.{get_or_past}
+use Rattle.std.proofs.Math.Nat.{div-mul-le_self, le-div_iff_mul-le}
 use Rattle.std.proofs.lemmas.Bool.{cases_lt, cases_eq}
 use Rattle.std.proofs.lemmas.Nat.Bits.{bit_at-zero}
 use Rattle.ct_vectors.specs.Vectors.{total, scale, Divides, IsTimes}

@@ -1,5 +1,5 @@
 -- What the rows at a point's places say of the heads, and the first head that divides the point.
-use Rattle.std.proofs.Common.{ℕ, ◌+◌, ◌-◌, ◌*◌, ◌/◌, ◌%◌, ◌^◌, ◌≤◌, ◌<◌, ◌≡◌, ◌≢◌, ◌⊎◌, inl, inr, min, Bool, true, false, cond, Option, Some, None, List, [], ◌∷◌, length, map, get_or, refl, sym, ◌∙◌, subst, ap, arith, All, true≢false, suc, nat_lt, not, ap₂}
+use Rattle.std.proofs.Common.{ℕ, ◌+◌, ◌-◌, ◌*◌, ◌/◌, ◌%◌, ◌^◌, ◌≤◌, ◌<◌, ◌≡◌, inl, inr, min, Bool, true, false, cond, Some, None, List, [], ◌∷◌, length, map, get_or, refl, sym, ◌∙◌, subst, ap, arith, All, nat_lt, not, ap₂}
 use Rattle.std.specs.Int.{bit_at, w128, bit_not}
 use Rattle.std.specs.List.{position, position_or_len}
 use lib.Bits.{bit_and}

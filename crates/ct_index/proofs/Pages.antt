@@ -1,11 +1,12 @@
 -- Lists in pages: one entry more, and the first entry that passes a test.
-use Rattle.std.proofs.Common.{ℕ, ◌+◌, ◌-◌, ◌*◌, ◌/◌, ◌%◌, ◌≤◌, ◌<◌, ◌≡◌, ◌≢◌, ◌⊎◌, inl, inr, Bool, true, false, cond, Option, Some, None, List, [], ◌∷◌, ◌++◌, length, get_or, set, take, drop, refl, sym, ◌∙◌, subst, ap, arith, All, suc, zero, nat_lt, append_assoc, append-nil, add-one}
+use Rattle.std.proofs.Common.{ℕ, ◌+◌, ◌-◌, ◌*◌, ◌/◌, ◌%◌, ◌≤◌, ◌<◌, ◌≡◌, ◌≢◌, inl, inr, Bool, false, Some, None, List, [], ◌∷◌, ◌++◌, length, get_or, set, take, drop, refl, sym, ◌∙◌, subst, ap, arith, All, suc, zero, append_assoc, append-nil, add-one}
 use Rattle.std.specs.List.{flat_map, position, position_or_len}
 use Rattle.std.proofs.lemmas.List.{get_or-set_same, get_or-set_other, length-set, get_or_append_left, get_or-append_right, get_or_push, length_push, length-append, take_more, take-append-drop, drop_more, get_or-append-add, drop_all, nil_from_length}
 use Rattle.std.proofs.lemmas.List.Concat.{flat_map-append}
-use Rattle.std.proofs.lemmas.List.Sums.{fails_before_first, position_or_len_is, passes_at_first}
+use Rattle.std.proofs.lemmas.List.Sums.{fails_before_first, passes_at_first}
 use Rattle.std.proofs.lemmas.List.Quantifiers.{position-Some}
 use Rattle.std.proofs.lemmas.Bool.{cases_eq, cases_lt}
+use Rattle.ct_vectors.specs.declared.limits.TheConstants.{MOVE_LIMIT}
 use Rattle.ct_index.specs.Pages.{ArePages, IsPaged}
 use Rattle.ct_index.proofs.Lookups.{position_here, position_none}
 
@@ -55,9 +56,6 @@ module _ {P X : Type 0} (f : P → List X) where
   All-page A (page ∷ pages) zero d l a = All-left A (f page) (flat_map f pages) a
   All-page A (page ∷ pages) (suc k) d l a = All-page A pages k d (omega arith) (All-right A (f page) (flat_map f pages) a)
 
-  pub pages_none : ArePages f []
-  pages_none = record { small = λ k d l. absurd (omega (arith, l)); full = λ k d l. absurd (omega (arith, l)) }
-
   -- another last page
   pub pages_set : (pages : List P) (k : ℕ) (page : P) → ArePages f pages → k + 1 ≡ length pages → length (f page) ≤ 128 → ArePages f (set pages k page)
   pages_set pages k page a last few = record {
@@ -93,7 +91,7 @@ module _ {P X : Type 0} (f : P → List X) where
 
   -- the last page grows
   pub paged_set : (pages : List P) (k : ℕ) (page : P) (xs : List X) → IsPaged f pages → k + 1 ≡ length pages → f page ≡ f (get_or pages k page) ++ xs → length (f page) ≤ 128 →
-      length (flat_map f pages) + length xs ≤ 4096 → IsPaged f (set pages k page)
+      length (flat_map f pages) + length xs ≤ MOVE_LIMIT → IsPaged f (set pages k page)
   paged_set pages k page xs a l e few most = record {
     all = pages_set pages k page a.all l few;
     most = omega (arith, ap length (flat_map-set pages k page xs l e), length-append (flat_map f pages) xs, most);
@@ -101,7 +99,7 @@ module _ {P X : Type 0} (f : P → List X) where
 
   -- a page is added
   pub paged_push : (pages : List P) (page : P) → IsPaged f pages → ((k : ℕ) → k + 1 ≡ length pages → (d : P) → length (f (get_or pages k d)) ≡ 128) → length (f page) ≤ 128 →
-      length (flat_map f pages) + length (f page) ≤ 4096 → IsPaged f (pages ++ page ∷ [])
+      length (flat_map f pages) + length (f page) ≤ MOVE_LIMIT → IsPaged f (pages ++ page ∷ [])
   paged_push pages page a last few most = record {
     all = pages_push pages page (λ k d l. elim (cases_eq (k + 1) (length pages)) [ inl same ↦ last k same d | inr other ↦ a.all.full k d (omega arith) ]) few;
     most = omega (arith, ap length (flat_map_push pages page), length-append (flat_map f pages) (f page), most);

@@ -1,5 +1,5 @@
 -- What a block keeps of its heads, as the fields of its index.
-use Rattle.std.specs.Prelude.{ℕ, ◌≤◌, ◌≡◌, List, [], ◌∷◌, ◌++◌, length, All}
+use Rattle.std.specs.Prelude.{ℕ, ◌≡◌, List, [], ◌∷◌, ◌++◌, length, All}
 use Rattle.ct_index.specs.declared.bits.HeadBits.{HeadBits}
 use Rattle.ct_index.specs.Table.{IsBlock}
 

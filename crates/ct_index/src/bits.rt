@@ -1,5 +1,6 @@
 //! The index of the heads of a block: what it keeps of them beside the heads themselves.
 ghost use Rattle.std.specs.Prelude.{◌++◌, ◌∷◌, replicate, ◌≡◌, ◌<◌, ◌≤◌, [], length, OnOk, OnErr, IfOk, bit_and};
+ghost use Rattle.ct_vectors.specs.declared.limits.TheConstants.{WIDTH_LIMIT};
 ghost use Rattle.ct_index.specs.Table.{row_count, AreMarked, IsDecided};
 ghost use Rattle.ct_index.specs.Bits.{KeepsIndex, AddsHead, AreEqual};
 
@@ -49,7 +50,7 @@ impl HeadBits {
     // Adds the head with this index, the number of heads before.
     pub fn add(&mut self, alloc: Global, head: &[u64], index: u32) -> Result<(), AllocError>
         requires index { index < 128 }
-        requires width { length head.now ≤ 80 }
+        requires width { length head.now ≤ WIDTH_LIMIT }
         ensures ok { OnOk result (AddsHead self.old self.new head.now index) }
         ensures err { OnErr result (KeepsIndex self.old self.new head.now index) }
     {
@@ -64,7 +65,7 @@ impl HeadBits {
 
     // Takes the table of no heads of this width.
     fn open(&mut self, alloc: Global, width: usize) -> Result<(), AllocError>
-        requires { width ≤ 80 }
+        requires { width ≤ WIDTH_LIMIT }
         ensures ok { OnOk result (self.new.rows.items ≡ replicate (row_count width) 0) }
         ensures err { OnErr result (self.new.rows ≡ self.old.rows) }
         ensures supports { self.new.supports ≡ self.old.supports }

@@ -61,6 +61,7 @@ impl<T: HasHead> HeadBlock<T> {
         ensures items { result.now ≡ self.now }
         ensures few { length result.now ≤ 128 }
     {
+        // The invariant of the bits says that there are few.
         let _bits = &self.bits;
         self.items.as_slice()
     }

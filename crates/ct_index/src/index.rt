@@ -3,6 +3,7 @@ ghost use Rattle.std.specs.Prelude.{◌≡◌, ◌<◌, ◌≤◌, [], ◌∷◌
 ghost use Rattle.std.specs.Option.{option_map};
 ghost use Rattle.std.specs.List.{position};
 ghost use Rattle.ct_vectors.specs.Vectors.{divides};
+ghost use Rattle.ct_vectors.specs.declared.limits.TheConstants.{MOVE_LIMIT};
 
 use crate::block::{BLOCK_SIZE, HeadBlock};
 use crate::places::Places;
@@ -41,7 +42,7 @@ impl HeadIndex {
     /// Adds a copy of the head, which gets the next number. For want of memory the index is as before. Each 128th head
     /// takes 128 bytes for each coordinate.
     pub fn push(&mut self, alloc: Global, head: &Point) -> Result<(), AllocError>
-        requires room { length self.old < 4096 }
+        requires room { length self.old < MOVE_LIMIT }
         requires width { All (λ h. length h ≡ length head.now) self.old }
         ensures ok { OnOk result (self.new ≡ self.old ++ head.now ∷ []) }
         ensures err { OnErr result (self.new ≡ self.old) }

@@ -1,13 +1,15 @@
 //! Where a point is looked up.
 ghost use Rattle.std.specs.Prelude.{◌≡◌, ◌+◌, ◌*◌, ◌/◌, ◌≤◌, ◌<◌, [], ℕ, min, length, slice_index};
+ghost use Rattle.ct_vectors.specs.declared.limits.TheConstants.{WIDTH_LIMIT};
 ghost use Rattle.ct_index.specs.Table.{ArePlaces, row_of};
 
 use crate::table::{LEVELS, PAIR_ROWS};
 use ct_point::Point;
+use ct_vectors::limits::WIDTH_LIMIT;
 use std::marker::Model;
 
 // How many pairs of coordinates a point has at most.
-const MOST: usize = 40;
+const MOST: usize = WIDTH_LIMIT / 2;
 
 /// The rows of a block's table where a point is looked up, one for each two coordinates.
 ///
@@ -59,7 +61,7 @@ impl Places {
 // Writes the rows of a point to the front.
 fn write(rows: &mut [u16], p: &[u64])
     requires room { length rows.old ≡ 40 }
-    requires width { length p.now ≤ 80 }
+    requires width { length p.now ≤ WIDTH_LIMIT }
     ensures { (q : ℕ) → q < (length p.now + 1) / 2 → slice_index rows.new q ≡ row_of p.now q }
 {
     let pairs = p.len() / 2;

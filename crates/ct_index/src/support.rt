@@ -1,11 +1,12 @@
 //! The support of a point as a mask: the bit of each coordinate that isn't 0.
 ghost use Rattle.std.specs.Prelude.{◌≡◌, ◌/◌, ◌≤◌, length, IsTrue};
 ghost use Rattle.ct_vectors.specs.Vectors.{total, IsTimes};
+ghost use Rattle.ct_vectors.specs.declared.limits.TheConstants.{WIDTH_LIMIT};
 ghost use Rattle.ct_index.specs.Table.{IsSupport, LacksSome};
 
 // The support.
 pub fn support_of(p: &[u64]) -> u128
-    requires { length p.now ≤ 80 }
+    requires { length p.now ≤ WIDTH_LIMIT }
     ensures { IsSupport p.now result }
 {
     let mut support = 0u128;

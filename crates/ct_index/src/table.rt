@@ -1,5 +1,6 @@
 //! The table of bits of a block: which heads are above a point in one of two coordinates.
 ghost use Rattle.std.specs.Prelude.{◌≡◌, ◌<◌, ◌≤◌, ◌^◌, ◌↔◌, length, replicate, slice_index, All, IfOk, IsTrue};
+ghost use Rattle.ct_vectors.specs.declared.limits.TheConstants.{WIDTH_LIMIT};
 ghost use Rattle.ct_index.specs.Table.{IsAbove, IsPast, row_count, AreMarked, IsExcluded, AreLow};
 
 use std::alloc::{AllocError, Global};
@@ -12,7 +13,7 @@ pub const PAIR_ROWS: usize = LEVELS * LEVELS;
 
 // The table of no heads of this width.
 pub fn blank(alloc: Global, width: usize) -> Result<Vec<u128>, AllocError>
-    requires { width ≤ 80 }
+    requires { width ≤ WIDTH_LIMIT }
     ensures { IfOk result (λ rows. rows.items ≡ replicate (row_count width) 0) }
 {
     vec![in alloc; 0u128; PAIR_ROWS * width.div_ceil(2)]

@@ -1,5 +1,5 @@
 -- What the values are that a grammar can give: the requests of a script are right-hand sides within the limit.
-use Rattle.std.proofs.Common.{◌≡◌, ℕ, zero, suc, ◌-◌, ◌≤◌, ℤ, Bool, true, false, if◌then◌else◌, List, [], ◌∷◌, All, length, nat_le, IfOk, Option, Some, None, Result, Ok, Err, refl, ap, subst}
+use Rattle.std.proofs.Common.{◌≡◌, ℕ, zero, suc, ◌-◌, ◌≤◌, ℤ, Bool, true, false, if◌then◌else◌, List, [], ◌∷◌, All, length, nat_le, IfOk, Option, Some, None, Result, Ok, Err, refl, ap, subst, arith}
 use Rattle.std.proofs.lemmas.Bool.{leb-true}
 use Rattle.std.proofs.lemmas.List.Elements.{All-cons, All-nil}
 use Rattle.ct_text.specs.Tokens.{Lexeme}
@@ -118,18 +118,31 @@ abbrev pub OnFound : {X : Type 0} → (X → Type 0) → Option X → Type 0
 OnFound P None = Unit {0}
 OnFound P (Some x) = P x
 
-module _ {X : Type 0} (P : X → Type 0) (item : ℕ → Grammar (Option X)) (uses : X → ℕ) (over : Grammar (List X))
-    (items : (spare : ℕ) → Yields (OnFound P) (item spare)) (overs : Yields (All P) over) where
-  yields-found : (rest : X → Grammar (List X)) → ((x : X) → Yields (All P) (rest x)) → (found : Option X) → OnFound P found →
-      Yields (All P) (if_some found (λ x. part (rest x) (λ xs. done (x ∷ xs))))
-  yields-found rest rests None here = All-nil P
-  yields-found rest rests (Some x) here = yields-part (All P) (All P) (rest x) (λ xs. done (x ∷ xs)) (rests x) (λ xs all. All-cons P x xs here all)
+-- at most so many, and P holds of each
+pub record AreUpto {X : Type 0} (P : X → Type 0) (most : ℕ) (xs : List X) : Type 0 where
+  pub all : All P xs
+  pub few : length xs ≤ most
 
-  pub yields-upto : (count spare : ℕ) → Yields (All P) (upto item uses over count spare)
+are-none : {X : Type 0} (P : X → Type 0) (most : ℕ) → AreUpto P most []
+are-none P most = record { all = All-nil P; few = omega arith }
+
+are-more : {X : Type 0} (P : X → Type 0) (most : ℕ) (x : X) (xs : List X) → P x → AreUpto P most xs → AreUpto P (suc most) (x ∷ xs)
+are-more P most x xs here are = record { all = All-cons P x xs here are.all; few = let few : length xs ≤ most = are.few in omega (arith, few) }
+
+module _ {X : Type 0} (P : X → Type 0) (item : ℕ → Grammar (Option X)) (uses : X → ℕ) (over : Grammar (List X))
+    (items : (spare : ℕ) → Yields (OnFound P) (item spare)) (overs : Yields (AreUpto P 0) over) where
+  yields-found : (most : ℕ) (rest : X → Grammar (List X)) → ((x : X) → Yields (AreUpto P most) (rest x)) → (found : Option X) → OnFound P found →
+      Yields (AreUpto P (suc most)) (if_some found (λ x. part (rest x) (λ xs. done (x ∷ xs))))
+  yields-found most rest rests None here = are-none P (suc most)
+  yields-found most rest rests (Some x) here =
+      yields-part (AreUpto P most) (AreUpto P (suc most)) (rest x) (λ xs. done (x ∷ xs)) (rests x) (λ xs are. are-more P most x xs here are)
+
+  pub yields-upto : (count spare : ℕ) → Yields (AreUpto P count) (upto item uses over count spare)
   unfolding upto
   yields-upto zero spare = overs
   yields-upto (suc count) spare =
-      yields-part (OnFound P) (All P) (item spare) _ (items spare) (yields-found (λ x. upto item uses over count (spare - uses x)) (λ x. yields-upto count (spare - uses x)))
+      yields-part (OnFound P) (AreUpto P (suc count)) (item spare) _ (items spare)
+      (yields-found count (λ x. upto item uses over count (spare - uses x)) (λ x. yields-upto count (spare - uses x)))
 
 -- ---- the session text
 
@@ -140,27 +153,33 @@ yields-request m = (
   (yields-part (AreNumbers m RIGHT_LIMIT) (OnFound (IsRequest m)) (numbers m RIGHT_LIMIT) _ (yields-numbers m RIGHT_LIMIT) (λ b are. record { right = are.count_is; limit = are.limit }), tt),
 )
 
-yields-requests : (m spare : ℕ) → Yields (All (IsRequest m)) (requests m spare)
-yields-requests m spare = yields-upto (IsRequest m) (λ _. request m) (λ _. 1) no_request (λ _. yields-request m) (All-nil (IsRequest m)) spare spare
+yields-requests : (m spare : ℕ) → Yields (AreUpto (IsRequest m) spare) (requests m spare)
+yields-requests m spare = yields-upto (IsRequest m) (λ _. request m) (λ _. 1) no_request (λ _. yields-request m) (are-none (IsRequest m) 0) spare spare
 
 yields-session : (m spare : ℕ) → Yields (OnFound (All (IsRequest m))) (session m spare)
 unfolding session
-yields-session m spare = (yields-part (All (IsRequest m)) (OnFound (All (IsRequest m))) (requests m spare) _ (yields-requests m spare) (λ rs all. all), tt)
+yields-session m spare =
+    (yields-part (AreUpto (IsRequest m) spare) (OnFound (All (IsRequest m))) (requests m spare) _ (yields-requests m spare) (λ rs are. are.all), tt)
 
-yields-sessions : (m spare : ℕ) → Yields (All (λ rs. All (IsRequest m) rs)) (sessions m spare)
-yields-sessions m spare = yields-upto (λ rs. All (IsRequest m) rs) (session m) length no_session (yields-session m) (All-nil (λ (rs : List Request). All (IsRequest m) rs)) SESSION_LIMIT spare
+yields-sessions : (m spare : ℕ) → Yields (AreUpto (λ rs. All (IsRequest m) rs) SESSION_LIMIT) (sessions m spare)
+yields-sessions m spare =
+    yields-upto (λ rs. All (IsRequest m) rs) (session m) length no_session (yields-session m) (are-none (λ (rs : List Request). All (IsRequest m) rs) 0) SESSION_LIMIT spare
 
 yields-phase : (m spare : ℕ) → Yields (OnFound (IsPhase m)) (phase m spare)
 unfolding phase
-yields-phase m spare =
-    (λ target below. yields-part (All (λ rs. All (IsRequest m) rs)) (OnFound (IsPhase m)) (sessions m spare) _ (yields-sessions m spare) (λ ss all. all), tt)
+yields-phase m spare = (
+  λ target below.
+      yields-part (AreUpto (λ rs. All (IsRequest m) rs) SESSION_LIMIT) (OnFound (IsPhase m)) (sessions m spare) _ (yields-sessions m spare)
+      (λ ss are. record { target = below; few = are.few; sessions = are.all }),
+  tt,
+)
 
-yields-phases : (m spare : ℕ) → Yields (All (IsPhase m)) (phases m spare)
-yields-phases m spare = yields-upto (IsPhase m) (phase m) _ no_phase (yields-phase m) (All-nil (IsPhase m)) PHASE_LIMIT spare
+yields-phases : (m spare : ℕ) → Yields (AreUpto (IsPhase m) PHASE_LIMIT) (phases m spare)
+yields-phases m spare = yields-upto (IsPhase m) (phase m) _ no_phase (yields-phase m) (are-none (IsPhase m) 0) PHASE_LIMIT spare
 
 yields-session_text : (m : ℕ) → Yields (IsScript m) (session_text m)
 unfolding session_text
-yields-session_text m = yields-part (All (IsPhase m)) (IsScript m) (phases m REQUEST_LIMIT) _ (yields-phases m REQUEST_LIMIT) (λ ps all. all)
+yields-session_text m = yields-part (AreUpto (IsPhase m) PHASE_LIMIT) (IsScript m) (phases m REQUEST_LIMIT) _ (yields-phases m REQUEST_LIMIT) (λ ps are. are.all)
 
 -- the script that was read is one for so many rows
 pub script_read : (m : ℕ) (s rest : Sheet) (r : Result Script InputStop) → Gives (λ (script : Script). (script, rest)) r (read (session_text m) s) → IfOk r (IsScript m)

@@ -3,6 +3,8 @@
 ghost use Rattle.std.specs.Prelude.{◌≡◌};
 ghost use Rattle.ct_input.specs.declared.fault.InputStop.TheVariants.{Memory};
 
+use crate::path::{JsonReason, PathStep};
+use ct_point::Seq;
 use std::alloc::{AllocError, AllocFailed};
 
 /// Why a token can't stand where it stands.
@@ -23,7 +25,7 @@ pub enum TextReason {
 }
 
 /// The first fault of a file.
-#[derive(Clone, Copy, Debug, PartialEq, Eq)]
+#[derive(Debug, Drop)]
 pub enum Fault {
     /// The file is longer than its limit.
     TooLong,
@@ -32,6 +34,13 @@ pub enum Fault {
         line: u64,
         column: u64,
         reason: TextReason,
+    },
+    /// The file is to be JSON and is none.
+    JsonSyntax,
+    /// A value of a JSON file can't stand where it stands. The path leads to it from the file's value.
+    Json {
+        path: Seq<PathStep>,
+        reason: JsonReason,
     },
 }
 

@@ -11,13 +11,16 @@ mod instance_text;
 pub mod laws;
 pub mod limits;
 mod lists;
+mod path;
 mod print;
 mod reader;
 mod script;
 mod sessions;
 
+pub use draft::Draft;
 pub use fault::{Fault, InputStop, TextReason};
 pub use instance_text::read_instance;
+pub use path::{JsonReason, Name, PathStep};
 pub use print::push_fault;
 pub use script::{Phase, Request, Script};
 pub use sessions::read_sessions;

@@ -1,23 +1,34 @@
 //! Texts from outside, with the faults that they have.
 
-use crate::{Fault, InputStop, Request, TextReason, push_fault, read_instance, read_sessions};
+use crate::{
+    Fault, InputStop, JsonReason, Name, PathStep, Request, TextReason, push_fault, read_instance,
+    read_sessions,
+};
+use ct_point::Seq;
 use std::test::Fail;
 
 const COINS: &[u8] = b"instance 1\nrows 1\ncolumns 2\nmatrix\n3 5\ncost 2 3\nend\n";
 
-fn fault_of<T: Drop>(read: Result<T, InputStop>) -> Option<Fault> {
+// Line, column and reason.
+type Place = (u64, u64, TextReason);
+
+fn fault_of<T: Drop>(read: Result<T, InputStop>) -> Option<Place> {
     match read {
-        Err(InputStop::Fault(fault)) => Some(fault),
+        Err(
+            InputStop::Fault(
+                Fault::Text {
+                    line,
+                    column,
+                    reason,
+                },
+            ),
+        ) => Some((line, column, reason)),
         _ => None,
     }
 }
 
-fn at(line: u64, column: u64, reason: TextReason) -> Option<Fault> {
-    Some(Fault::Text {
-        line,
-        column,
-        reason,
-    })
+fn at(line: u64, column: u64, reason: TextReason) -> Option<Place> {
+    Some((line, column, reason))
 }
 
 #[test]
@@ -119,8 +130,7 @@ fn rows_of_costs(rt: HostRuntime) -> Result<(), Fail> {
         text.extend_from_slice(b"end")?;
         match read_instance(rt.alloc(), text.as_slice()) {
             Ok(inst) => assert!(rt; fault.is_none() && inst.costs().row_count() as u64 == count),
-            Err(InputStop::Fault(found)) => assert!(rt; Some(found) == fault, "{count}"),
-            Err(InputStop::Memory) => assert!(rt; false),
+            refused => assert!(rt; fault.is_some() && fault_of(refused) == fault, "{count}"),
         }
     }
     Ok(())
@@ -192,7 +202,41 @@ fn texts_of_faults(rt: HostRuntime) -> Result<(), Fail> {
             },
             b"line 4 column 17: zero column",
         ),
+        (Fault::JsonSyntax, b"json syntax"),
     ] {
+        let mut out = Vec::new(rt.alloc());
+        push_fault(&mut out, &fault)?;
+        assert!(rt; out.as_slice() == text);
+    }
+    Ok(())
+}
+
+#[test]
+fn texts_of_json_faults(rt: HostRuntime) -> Result<(), Fail> {
+    let entry = [
+        PathStep::Member(Name::Matrix),
+        PathStep::Index(0),
+        PathStep::Index(12),
+    ];
+    for (path, reason, text) in [
+        (&entry[..0], JsonReason::Extra, &b"json at /: extra"[..]),
+        (
+            &entry[..1],
+            JsonReason::Missing,
+            b"json at /matrix: missing",
+        ),
+        (&entry[..2], JsonReason::Limit, b"json at /matrix/0: limit"),
+        (&entry[..3], JsonReason::Kind, b"json at /matrix/0/12: kind"),
+        (
+            &entry[..3],
+            JsonReason::ZeroColumn,
+            b"json at /matrix/0/12: zero column",
+        ),
+    ] {
+        let fault = Fault::Json {
+            path: Seq::from_vec(Vec::from_slice(rt.alloc(), path)?),
+            reason,
+        };
         let mut out = Vec::new(rt.alloc());
         push_fault(&mut out, &fault)?;
         assert!(rt; out.as_slice() == text);

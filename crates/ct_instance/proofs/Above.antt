@@ -67,9 +67,6 @@ pub least_above-same : (d : ℕ) (gs hs : List ℕ) → ((g : ℕ) → Contains 
     least_above d gs ≡ least_above d hs
 least_above-same d gs hs to from = one_least_above d gs hs to from (least_above d gs) (least_above d hs) (least_above_is d gs) (least_above_is d hs)
 
-pub is_least_above : (d : ℕ) (gs : List ℕ) (o : Option ℕ) → IsLeastAbove d gs o → least_above d gs ≡ o
-is_least_above d gs o a = one_least_above d gs gs (λ g c l. c) (λ g c l. c) (least_above d gs) o (least_above_is d gs) a
-
 -- ---- the level before it
 
 abbrev pub level_under : Option ℕ → Level

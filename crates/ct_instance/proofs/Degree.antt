@@ -2,9 +2,9 @@
 use Rattle.std.proofs.Common.{ℕ, ◌+◌, ◌*◌, ◌≤◌, ◌<◌, ◌≡◌, List, [], ◌∷◌, ◌++◌, length, get_or, refl, sym, subst, ap, ap₂, ◌∙◌, arith, zero, suc, mul-le-mul_left, length-append}
 use Rattle.std.specs.List.{AllByRecursion}
 use Rattle.std.proofs.lemmas.List.Elements.{recursion_from_All, All-from_recursion, All-get_or}
-use Rattle.ct_vectors.specs.Vectors.{total, add, subtract, scale, zeros, unit, Divides}
+use Rattle.ct_vectors.specs.Vectors.{total, add, subtract, scale, lcm, zeros, unit, Divides}
 use Rattle.ct_vectors.proofs.Sums.{cons_same, length-add_same, length-scale, length-zeros, add-nil, add-zeros, add_cross, scale_of_sum, scale-add, scale-one, scale-zero, zeros-add, total-add, total-scale, zeros_from_total}
-use Rattle.ct_vectors.proofs.Divisors.{Divides-add, add-subtract, total-divides}
+use Rattle.ct_vectors.proofs.Divisors.{Divides-add, Divides-add_left, add-subtract, total-divides, lcm-divides, length-lcm}
 use Rattle.ct_instance.specs.Instance.{Problem, IsColumn, IsInstance, IsPoint, IsRight, column_count, degree_of, grade_of, start_of}
 
 scale-scale : (t x : ℕ) (c : List ℕ) → scale (t * x) c ≡ scale t (scale x c)
@@ -80,6 +80,14 @@ degree-divides cs h p l d =
 
 pub grade-divides : (cs : List (List ℕ)) (h p : List ℕ) → length h ≤ length p → Divides h p → grade_of cs h ≤ grade_of cs p
 grade-divides cs h p l d = total-divides (degree_of cs h) (degree_of cs p) (degree-divides cs h p l d)
+
+-- the grade of a least common multiple is at most the sum of the grades
+pub grade-lcm : (cs : List (List ℕ)) (p q : List ℕ) → length p ≡ length q → grade_of cs (lcm p q) ≤ grade_of cs p + grade_of cs q
+grade-lcm cs p q e =
+    let wide : length (lcm p q) ≤ length (add p q) = omega (arith, length-lcm p q, length-add_same p q e refl) in
+    let below : grade_of cs (lcm p q) ≤ grade_of cs (add p q) =
+    grade-divides cs (lcm p q) (add p q) wide (lcm-divides p q (add p q) (Divides-add_left p q) (Divides-add p q)) in
+    omega (arith, grade-add cs p q)
 
 -- what one swap of a part for another of its degree leaves
 pub degree_of_swap : (cs : List (List ℕ)) (rest h t : List ℕ) → degree_of cs t ≡ degree_of cs h → degree_of cs (add rest t) ≡ degree_of cs (add rest h)

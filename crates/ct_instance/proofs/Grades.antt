@@ -51,11 +51,5 @@ pub weighted_more : (ss p : List ℕ) (j : ℕ) → j < length ss → j < length
 weighted_more ss p j in-ss in-p =
     ap (λ l. weighted l (drop j p)) (drop_more ss j 0 in-ss) ∙ ap (λ l. weighted (get_or ss j 0 ∷ drop (j + 1) ss) l) (drop_more p j 0 in-p)
 
--- the artificials are part of the grade
-pub weighted-total : (ss p : List ℕ) → total (drop (length ss) p) ≤ weighted ss p
-weighted-total [] p = omega arith
-weighted-total (s ∷ ss) [] = omega arith
-weighted-total (s ∷ ss) (x ∷ p) = let rest : total (drop (length ss) p) ≤ weighted ss p = weighted-total ss p in omega arith
-
 pub product-limit : (a b m n : ℕ) → a ≤ m → b ≤ n → a * b ≤ m * n
 product-limit a b m n h k = grind arith

@@ -8,6 +8,7 @@ pub mod TestList
 pub mod Grades
 pub mod Entries
 pub mod JobsList
+pub mod SameJobs
 pub mod Above
 pub mod Points
 mod Worked

@@ -68,21 +68,13 @@ least_fits i inst b right limit p same =
 
 -- ---- what a least point answers
 
-pub outcome-short : (i : Problem) (p : List ℕ) (s : ℕ) → s ≡ art_total_of (column_count i) p → 0 < s → outcome_of i p ≡ infeasible s
-outcome-short i p s same some =
-    let not_zero : nat_eq (art_total_of (column_count i) p) 0 ≡ false = ne_eqb (art_total_of (column_count i) p) 0 (λ e. omega arith) in
-    rw not_zero (ap infeasible (sym same))
-
 pub outcome-optimum : (i : Problem) → IsInstance i → (p : List ℕ) → art_total_of (column_count i) p ≡ 0 →
     outcome_of i p ≡ optimum (take (column_count i) p) (map (λ row. cost_of row p) i.cost_rows)
 outcome-optimum i inst p none =
     let zero : nat_eq (art_total_of (column_count i) p) 0 ≡ true = eq-eqb (art_total_of (column_count i) p) 0 none in
     rw zero (ap (optimum (take (column_count i) p)) (costs_of-take i inst p))
 
--- the answer by its least point, and its artificial total
-pub answer-short : (i : Problem) (b p : List ℕ) → p ≡ least_of i b → (s : ℕ) → s ≡ art_total_of (column_count i) p → 0 < s → answer_of i b ≡ infeasible s
-answer-short i b p same s short some = ap (outcome_of i) (sym same) ∙ outcome-short i p s short some
-
+-- the answer by its least point
 pub answer-optimum : (i : Problem) → IsInstance i → (b p : List ℕ) → p ≡ least_of i b → art_total_of (column_count i) p ≡ 0 →
     answer_of i b ≡ optimum (take (column_count i) p) (map (λ row. cost_of row p) i.cost_rows)
 answer-optimum i inst b p same none = ap (outcome_of i) (sym same) ∙ outcome-optimum i inst p none

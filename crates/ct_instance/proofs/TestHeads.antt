@@ -8,7 +8,8 @@ use Rattle.ct_vectors.proofs.Divisors.{Divides-refl, Divides-trans, Divides-add_
 use Rattle.ct_order.proofs.Order.{below-add, below-add_left}
 use Rattle.ct_instance.specs.Instance.{Problem, IsInstance, IsPoint, column_count, width_of, degree_of}
 use Rattle.ct_instance.specs.Fiber.{IsBelow, IsLeast}
-use Rattle.ct_instance.specs.TestSet.{IsImprovable, is_improvable, IsTestHead, one_less, is_test_head}
+use Rattle.ct_instance.specs.TestSet.{Binomial, IsImprovable, is_improvable, IsTestHead, one_less, is_test_head, IsTestMove}
+use Rattle.ct_instance.specs.Walk.{IsMove}
 use Rattle.ct_instance.proofs.Lists.{Contains-here, Contains-there, Contains-cons_cases, Contains-nil, Contains-map, map_gives, list_all_gives, list_all_from, list_all_fails}
 use Rattle.ct_instance.proofs.Degree.{degree-add, degree_is_right}
 use Rattle.ct_instance.proofs.Fiber.{in_own_fiber, improvable_test, points_cases, not_below_least, least_not_improvable}
@@ -193,3 +194,14 @@ test_move_disjoint i s h t u l = ⊎_elim (λ d. d) (λ n. absurd (apart (shared
         (λ d. not_below_least i (degree_of i.columns h) t l h (in_own_fiber i h u.point)
         (subst₂ (IsBelow i) (sym r.6) (sym r.7) (below-add (column_count i) i.cost_rows r.1 r.2 e d))) c)
         (points_cases i r.2 r.1 g f)
+
+-- ---- a test move is a move
+
+pub test_move_is_move : (i : Problem) (m : Binomial) → IsTestMove i m → IsMove i m
+test_move_is_move i m u = record {
+  head = u.head.point;
+  tail = u.tail.member.point;
+  degree = u.tail.member.degree;
+  below = u.tail.below m.head (in_own_fiber i m.head u.head.point)
+      (λ e. least_not_improvable i (degree_of i.columns m.head) m.head (subst (IsLeast i (degree_of i.columns m.head)) (sym e) u.tail) u.head.improvable);
+}

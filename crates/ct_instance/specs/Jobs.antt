@@ -1,5 +1,5 @@
 -- The jobs of a list of moves: a generator for each column, and a critical pair for each two moves.
-use Rattle.std.specs.Prelude.{ℕ, ◌+◌, ◌-◌, ◌≤◌, ◌<◌, ◌≡◌, ◌⊎◌, nat_eq, List, [], ◌++◌, filter, map, length, unwrap_or, slice_get, zero, suc}
+use Rattle.std.specs.Prelude.{ℕ, ◌+◌, ◌-◌, ◌≤◌, ◌<◌, ◌≡◌, ◌⊎◌, Bool, false, ◌&&◌, nat_eq, List, [], ◌++◌, filter, map, length, unwrap_or, slice_get, zero, suc}
 use Rattle.std.specs.List.{flat_map}
 use Rattle.ct_vectors.specs.Vectors.{add, subtract, lcm, total, Disjoint, up_to}
 use Rattle.ct_instance.specs.declared.jobs.Job.{Job}
@@ -30,6 +30,13 @@ JobComesBefore (Generator j) (Generator k) = j < k
 JobComesBefore (Generator j) (Pair a b) = Unit {0}
 JobComesBefore (Pair a b) (Generator k) = ⊥
 JobComesBefore (Pair a b) (Pair c d) = (a < c) ⊎ ((a ≡ c) × (b < d))
+
+-- whether two jobs are one, as a test
+abbrev pub is_same_job : Job → Job → Bool
+is_same_job (Generator j) (Generator k) = nat_eq j k
+is_same_job (Generator j) (Pair a b) = false
+is_same_job (Pair a b) (Generator k) = false
+is_same_job (Pair a b) (Pair c d) = nat_eq a c && nat_eq b d
 
 -- the degree of both its ends
 abbrev pub job_degree_of : Problem → List Binomial → Job → List ℕ

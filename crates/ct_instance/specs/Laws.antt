@@ -7,7 +7,7 @@ use Rattle.ct_instance.specs.Fiber.{fiber_of, least_of, IsInFiber, IsBelow, IsLe
 use Rattle.ct_instance.specs.Answer.{IsSolution, costs_of, optimum, infeasible, answer_of}
 use Rattle.ct_instance.specs.TestSet.{Binomial, IsImprovable, is_improvable, IsTestHead, is_test_head, test_list, IsTestList}
 use Rattle.ct_instance.specs.declared.jobs.Job.{Job}
-use Rattle.ct_instance.specs.Jobs.{IsJob, JobComesBefore, IsEarlierJob, job_grade_of, all_jobs, jobs_at, jobs_up_to}
+use Rattle.ct_instance.specs.Jobs.{IsJob, JobComesBefore, is_same_job, IsEarlierJob, job_grade_of, all_jobs, jobs_at, jobs_up_to}
 
 -- ---- fibers
 
@@ -54,6 +54,9 @@ ShortHasNoSolution =
     (i : Problem) → IsInstance i → (b : List ℕ) → IsRight i b → ((x : List ℕ) → IsSolution i b x → ⊥) ↔ ((s : ℕ) × IsShort i b s)
 
 -- ---- tests
+
+abbrev pub SameJobIsTested : Type 0
+SameJobIsTested = (j k : Job) → (is_same_job j k ≡ true) ↔ (j ≡ k)
 
 abbrev pub ImprovableIsTested : Type 0
 ImprovableIsTested = (i : Problem) → IsInstance i → (p : List ℕ) → IsPoint i p → (is_improvable i p ≡ true) ↔ IsImprovable i p

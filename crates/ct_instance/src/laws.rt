@@ -1,6 +1,6 @@
 //! Laws of the definitions, as contracts of functions that do nothing.
 
-ghost use Rattle.ct_instance.specs.Laws.{FiberIsListed, LeastPointIsLeast, SolutionsAreInFibers, AnswerIsLeastSolution, AnswerIsShort, ShortHasNoSolution, ImprovableIsTested, TestHeadIsTested, DividesIsTested, ImprovableIsNotLeast, ImprovableAboveTestHead, TestHeadIsMinimal, TestMoveIsDisjoint, TestListIsOne, TestListsGrow, JobsAreListed, JobsOfGradeAreListed, JobsUpToAreListed, JobsAreCounted};
+ghost use Rattle.ct_instance.specs.Laws.{FiberIsListed, LeastPointIsLeast, SolutionsAreInFibers, AnswerIsLeastSolution, AnswerIsShort, ShortHasNoSolution, ImprovableIsTested, TestHeadIsTested, DividesIsTested, SameJobIsTested, ImprovableIsNotLeast, ImprovableAboveTestHead, TestHeadIsMinimal, TestMoveIsDisjoint, TestListIsOne, TestListsGrow, JobsAreListed, JobsOfGradeAreListed, JobsUpToAreListed, JobsAreCounted};
 
 /// The listed fiber has exactly the points of its degree, and `least_of` is the one point that is below all others.
 pub fn fiber_has_one_least_point()
@@ -17,12 +17,13 @@ pub fn answer_is_least_solution()
     ensures exactly { ShortHasNoSolution }
 {}
 
-/// The tests `is_improvable`, `is_test_head` and `divides` agree with what they are named after, and a point is
+/// The tests `is_improvable`, `is_test_head`, `divides` and `is_same_job` agree with what they are named after, and a point is
 /// improvable where it isn't the least of its fiber.
 pub fn tests_agree()
     ensures improvable { ImprovableIsTested }
     ensures test_head { TestHeadIsTested }
     ensures divides { DividesIsTested }
+    ensures same_job { SameJobIsTested }
     ensures not_least { ImprovableIsNotLeast }
 {}
 

@@ -12,6 +12,7 @@ use Rattle.ct_instance.specs.Jobs.{IsJob, JobComesBefore, the_move, job_grade_of
 use Rattle.ct_instance.specs.Versions.{least_above}
 use Rattle.ct_instance.proofs.Lists.{Contains-here, Contains-there, Contains-cons_cases, Contains-nil, Contains-filter, filter_gives}
 use Rattle.ct_instance.proofs.Ordered.{InOrder-filter, InOrder-unique}
+use Rattle.ct_instance.proofs.Above.{least_above-same}
 use Rattle.ct_instance.proofs.JobsList.{jobs_listed, jobs_in_order}
 use Rattle.ct_walk.proofs.Ends.{the_move_is, the_move_at}
 use Rattle.ct_walk.proofs.Steps.{move_at-append}
@@ -115,55 +116,12 @@ jobs_grow i ms ns js a =
 
 -- ---- the next grade
 
--- what the least number above d is, by membership
-abbrev IsNext : ℕ → List ℕ → Option ℕ → Type 0
-IsNext d gs None = (x : ℕ) → Contains gs x → x ≤ d
-IsNext d gs (Some g) = Contains gs g × (d < g) × ((x : ℕ) → Contains gs x → d < x → g ≤ x)
-
-one_above : (d g : ℕ) → nat_lt d g ≡ true → least_above d (g ∷ []) ≡ Some g
-one_above d g e = simp e
-
-one_not_above : (d g : ℕ) → nat_lt d g ≡ false → least_above d (g ∷ []) ≡ None
-one_not_above d g e = simp e
-
-next_more : (d g : ℕ) (gs : List ℕ) → d < g → (o : Option ℕ) → IsNext d gs o → IsNext d (g ∷ gs) (lesser_of (Some g) o)
-next_more d g gs l None n =
-    (Contains-here g gs, l, λ x c k. ⊎_elim (λ s. omega (arith, s)) (λ f. absurd (let h : x ≤ d = n x f in omega arith)) (Contains-cons_cases g gs x c))
-next_more d g gs l (Some h) n =
-    let above : d < h = n.1 in (
-      ⊎_elim (λ k. subst (Contains (g ∷ gs)) (let e : g ≡ min g h = omega arith in e) (Contains-here g gs))
-          (λ k. subst (Contains (g ∷ gs)) (let e : h ≡ min g h = omega arith in e) (Contains-there g gs h n.0)) (cases_lt g h),
-      omega arith,
-      λ x c k. ⊎_elim (λ s. omega (arith, s)) (λ f. let b : h ≤ x = n.2 x f k in omega arith) (Contains-cons_cases g gs x c),
-    )
-
-next_skips : (d g : ℕ) (gs : List ℕ) → g ≤ d → (o : Option ℕ) → IsNext d gs o → IsNext d (g ∷ gs) o
-next_skips d g gs l None n = λ x c. ⊎_elim (λ s. omega (arith, s)) (n x) (Contains-cons_cases g gs x c)
-next_skips d g gs l (Some h) n =
-    (Contains-there g gs h n.0, n.1, λ x c k. ⊎_elim (λ s. absurd (omega (arith, s))) (λ f. n.2 x f k) (Contains-cons_cases g gs x c))
-
-next_is : (d : ℕ) (gs : List ℕ) → IsNext d gs (least_above d gs)
-next_is d [] = λ x c. absurd (Contains-nil x c)
-next_is d (g ∷ gs) = subst (IsNext d (g ∷ gs)) (sym (least_above-cons d g gs)) (more (nat_lt d g) refl (next_is d gs))
-  where
-    more : (b : Bool) → nat_lt d g ≡ b → IsNext d gs (least_above d gs) → IsNext d (g ∷ gs) (lesser_of (least_above d (g ∷ [])) (least_above d gs))
-    more true e n = subst (λ o. IsNext d (g ∷ gs) (lesser_of o (least_above d gs))) (sym (one_above d g e)) (next_more d g gs (ltb-true d g e) (least_above d gs) n)
-    more false e n = subst (λ o. IsNext d (g ∷ gs) (lesser_of o (least_above d gs))) (sym (one_not_above d g e)) (next_skips d g gs (ltb-false d g e) (least_above d gs) n)
-
-next_is_one : (d : ℕ) (gs hs : List ℕ) (a b : Option ℕ) → ((x : ℕ) → Contains gs x → Contains hs x) → ((x : ℕ) → Contains hs x → Contains gs x) → IsNext d gs a → IsNext d hs b → a ≡ b
-next_is_one d gs hs None None f g m n = refl
-next_is_one d gs hs None (Some y) f g m n = let l : d < y = n.1 in let h : y ≤ d = m y (g y n.0) in absurd (omega arith)
-next_is_one d gs hs (Some x) None f g m n = let l : d < x = m.1 in let h : x ≤ d = n x (f x m.0) in absurd (omega arith)
-next_is_one d gs hs (Some x) (Some y) f g m n =
-    let h : x ≤ y = m.2 y (g y n.0) n.1 in let k : y ≤ x = n.2 x (f x m.0) m.1 in ap Some (omega arith)
-
 pub next_grade_of_all : (i : Problem) (ms : List Binomial) (js : List GradedJob) (d : ℕ) → AreJobsOf i ms js → next_grade d js ≡ least_above d (map (job_grade_of i ms) (all_jobs i ms))
 next_grade_of_all i ms js d a =
     let grades : IsPermutation (map (λ (j : GradedJob). j.grade) (graded_jobs i ms)) (map (λ (j : GradedJob). j.grade) js) = IsPermutation-map (λ (j : GradedJob). j.grade) (graded_jobs i ms) js a in
-    next_is_one d (map (λ (j : GradedJob). j.grade) js) (map (λ (j : GradedJob). j.grade) (graded_jobs i ms)) (next_grade d js) (next_grade d (graded_jobs i ms))
-    (λ x. Contains-permutation (map (λ (j : GradedJob). j.grade) js) (map (λ (j : GradedJob). j.grade) (graded_jobs i ms)) x (IsPermutation-sym (map (λ (j : GradedJob). j.grade) (graded_jobs i ms)) (map (λ (j : GradedJob). j.grade) js) grades))
-    (λ x. Contains-permutation (map (λ (j : GradedJob). j.grade) (graded_jobs i ms)) (map (λ (j : GradedJob). j.grade) js) x grades)
-    (next_is d (map (λ (j : GradedJob). j.grade) js)) (next_is d (map (λ (j : GradedJob). j.grade) (graded_jobs i ms))) ∙
+    least_above-same d (map (λ (j : GradedJob). j.grade) js) (map (λ (j : GradedJob). j.grade) (graded_jobs i ms))
+    (λ x c _. Contains-permutation (map (λ (j : GradedJob). j.grade) js) (map (λ (j : GradedJob). j.grade) (graded_jobs i ms)) x (IsPermutation-sym (map (λ (j : GradedJob). j.grade) (graded_jobs i ms)) (map (λ (j : GradedJob). j.grade) js) grades) c)
+    (λ x c _. Contains-permutation (map (λ (j : GradedJob). j.grade) (graded_jobs i ms)) (map (λ (j : GradedJob). j.grade) js) x grades c) ∙
     ap (least_above d) (grades_of (all_jobs i ms))
   where
     grades_of : (l : List Job) → map (λ (j : GradedJob). j.grade) (map (with_grade i ms) l) ≡ map (job_grade_of i ms) l

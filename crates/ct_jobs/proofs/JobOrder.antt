@@ -7,8 +7,9 @@ use Rattle.std.proofs.lemmas.List.Sums.{sum_by-cons}
 use Rattle.ct_instance.specs.declared.jobs.Job.{Job}
 use Rattle.ct_instance.specs.declared.jobs.Job.TheVariants.{Generator, Pair}
 use Rattle.ct_instance.specs.contracts.jobs.JobOrd.TheImpl as derived
-use Rattle.ct_instance.specs.Jobs.{JobComesBefore}
+use Rattle.ct_instance.specs.Jobs.{JobComesBefore, is_same_job}
 use Rattle.ct_instance.proofs.Lists.{Contains-here, Contains-there, Contains-cons_cases}
+use Rattle.ct_instance.proofs.SameJobs.{same_job_test}
 use Rattle.ct_instance.proofs.Ordered.{InOrder, InOrder-from_pairs}
 use Rattle.ct_jobs.specs.GradedJobs.{IsInJobOrder}
 
@@ -113,39 +114,21 @@ in_job_order xs s = far xs (neighbours xs s)
 
 -- ---- one list in order has these elements
 
-job_eq : Job → Job → Bool
-job_eq (Generator j) (Generator k) = nat_eq j k
-job_eq (Generator j) (Pair c d) = false
-job_eq (Pair a b) (Generator k) = false
-job_eq (Pair a b) (Pair c d) = nat_eq a c && nat_eq b d
-
-job_eq-true : (j k : Job) → job_eq j k ≡ true → j ≡ k
-unfolding job_eq
-job_eq-true (Generator j) (Generator k) e = ap Generator (eqb-true j k e)
-job_eq-true (Generator j) (Pair c d) e = absurd (true≢false (sym e))
-job_eq-true (Pair a b) (Generator k) e = absurd (true≢false (sym e))
-job_eq-true (Pair a b) (Pair c d) e = let p = and_parts (nat_eq a c) (nat_eq b d) e in ap₂ Pair (eqb-true a c p.0) (eqb-true b d p.1)
-
-job_eq-refl : (j : Job) → job_eq j j ≡ true
-unfolding job_eq
-job_eq-refl (Generator j) = eq-eqb j j refl
-job_eq-refl (Pair a b) = and_from (nat_eq a a) (nat_eq b b) (eq-eqb a a refl) (eq-eqb b b refl)
-
 abbrev is_job : Job → Job → ℕ
-is_job x j = cond (job_eq x j) 1 0
+is_job x j = cond (is_same_job x j) 1 0
 
 counted : (x : Job) (ys : List Job) → 1 ≤ sum_by (is_job x) ys → Contains ys x
 counted x [] h = absurd (omega arith)
-counted x (y ∷ ys) h = go (job_eq x y) refl (counted x ys)
+counted x (y ∷ ys) h = go (is_same_job x y) refl (counted x ys)
   where
-    go : (b : Bool) → job_eq x y ≡ b → (1 ≤ sum_by (is_job x) ys → Contains ys x) → Contains (y ∷ ys) x
-    go true e rest = subst (Contains (y ∷ ys)) (sym (job_eq-true x y e)) (Contains-here y ys)
+    go : (b : Bool) → is_same_job x y ≡ b → (1 ≤ sum_by (is_job x) ys → Contains ys x) → Contains (y ∷ ys) x
+    go true e rest = subst (Contains (y ∷ ys)) (sym ((same_job_test x y).0 e)) (Contains-here y ys)
     go false e rest =
         let none : is_job x y ≡ 0 = ap (λ b. cond b 1 0) e in
         Contains-there y ys x (rest (omega (arith, sum_by-cons (is_job x) y ys)))
 
 counts_itself : (x : Job) (xs : List Job) → 1 ≤ sum_by (is_job x) (x ∷ xs)
-counts_itself x xs = let one : is_job x x ≡ 1 = ap (λ b. cond b 1 0) (job_eq-refl x) in omega (arith, sum_by-cons (is_job x) x xs)
+counts_itself x xs = let one : is_job x x ≡ 1 = ap (λ b. cond b 1 0) ((same_job_test x x).1 refl) in omega (arith, sum_by-cons (is_job x) x xs)
 
 -- the lists have the same elements, each as often
 abbrev pub HaveSame : List Job → List Job → Type 0

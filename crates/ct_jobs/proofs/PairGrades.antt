@@ -10,7 +10,7 @@ use Rattle.ct_instance.specs.TestSet.{Binomial}
 use Rattle.ct_instance.specs.Walk.{IsMove}
 use Rattle.ct_instance.specs.Fiber.{IsInFiber}
 use Rattle.ct_instance.specs.Jobs.{the_move, the_column}
-use Rattle.ct_instance.proofs.Degree.{columns, grade-add, grade-divides, coordinate-le-grade}
+use Rattle.ct_instance.proofs.Degree.{columns, grade-lcm, coordinate-le-grade}
 use Rattle.ct_walk.specs.Moves.{MoveList, IsMoveList, IsSmallMove}
 use Rattle.ct_walk.proofs.Ends.{the_move_at, the_column_is, swapped_in_fiber}
 use Rattle.ct_walk.proofs.Steps.{move_at_listed}
@@ -21,14 +21,6 @@ pub small_move : (l : MoveList) → IsMoveList l → (k : ℕ) → 1 ≤ k → k
 small_move l h k a b =
     let c = move_at_listed l.moves k (the_move l.moves k) (the_move_at l.moves k a b) in
     subst (IsSmallMove l.instance) c.2 (h.moves c.0 (the_move l.moves k) c.1)
-
--- the grade of a least common multiple is at most the sum of the grades
-pub grade-lcm : (cs : List (List ℕ)) (p q : List ℕ) → length p ≡ length q → grade_of cs (lcm p q) ≤ grade_of cs p + grade_of cs q
-grade-lcm cs p q e =
-    let wide : length (lcm p q) ≤ length (add p q) = omega (arith, length-lcm p q, length-add_same p q e refl) in
-    let below : grade_of cs (lcm p q) ≤ grade_of cs (add p q) =
-    grade-divides cs (lcm p q) (add p q) wide (lcm-divides p q (add p q) (Divides-add_left p q) (Divides-add p q)) in
-    omega (arith, grade-add cs p q)
 
 heads_wide : (i : Problem) (m n : Binomial) → IsMove i m → IsMove i n → length m.head ≡ length n.head
 heads_wide i m n a b = a.head ∙ sym b.head

@@ -75,6 +75,7 @@ impl ByGrade {
     pub fn gather_pairs(&self, out: &mut Vec<Job>, grade: u64) -> Result<(), AllocError>
         ensures { OnOk result (out.new.items ≡ out.old.items ++ of_grade grade self.now) }
     {
+        // For its facts alone: the grades of the map rise.
         let _grades = self.map.len();
         match self.map.get(&grade) {
             Some(pairs) => push_pairs(out, pairs),

@@ -82,6 +82,7 @@ fn have_coprime_heads(moves: &Moves, i: u32, k: u32) -> bool
     requires { IsJob moves.now.instance moves.now.moves (Job.Pair i k) }
     ensures { IsTrue result ↔ IsCoprime moves.now.moves (Job.Pair i k) }
 {
+    // For its facts alone: these are moves of the instance, within the limits.
     let _instance = moves.instance();
     moves.get(i).head().disjoint(moves.get(k).head())
 }
@@ -117,6 +118,7 @@ fn left_into(moves: &Moves, i: u32, k: u32, p: &mut Point)
     requires point { IsPoint moves.now.instance p.old }
     ensures { p.new ≡ left_of (the_move moves.now.moves i) (the_move moves.now.moves k) }
 {
+    // For its facts alone: these are moves of the instance, within the limits.
     let _instance = moves.instance();
     write_left(p, moves.get(i), moves.get(k));
 }
@@ -127,6 +129,7 @@ pub fn pair_grade(inst: &Instance, moves: &Moves, i: u32, k: u32) -> u64
     requires job { IsJob inst.now moves.now.moves (Job.Pair i k) }
     ensures { result ≡ job_grade_of inst.now moves.now.moves (Job.Pair i k) }
 {
+    // For its facts alone: these are moves of the instance, within the limits.
     let _instance = moves.instance();
     let first = moves.get(i).head().as_slice();
     let second = moves.get(k).head().as_slice();

@@ -12,17 +12,16 @@ use Rattle.ct_lines.specs.Texts.{text_of, IsStep, step_word, walk_words}
 use Rattle.ct_lines.specs.Reading.{is_next, step_of}
 use Rattle.ct_lines.specs.Wording.{Wording, barred, Spells, Runs, read_from}
 use Rattle.ct_lines.specs.FaultLine.{IsFaultLine}
+use Rattle.ct_lines.specs.declared.stop.TextStop.{TextStop}
+use Rattle.ct_lines.specs.Stops.{AtFault, Found}
 use Rattle.ct_text.specs.Pieces.{split}
 use Rattle.ct_lines.proofs.TextLines.{IsSpelled, AreSpelled}
 use Rattle.ct_lines.proofs.Spelling.{Fits, no_step_word, AreWords, words_append, word_decimal, words_numbers, words_walk, spelled_line}
-use Rattle.ct_lines.proofs.Machines.{Machine, Runs-append, one_value, text_from_ok, fault_from_err}
+use Rattle.ct_lines.proofs.Machines.{Machine, Runs-append, one_value, ok_from_found, fault_from_found}
 use Rattle.ct_ledger.specs.declared.entries.LedgerEntry.{LedgerEntry}
 use Rattle.ct_ledger.specs.declared.entries.LedgerEntry.TheVariants.{Coprime, Walks}
 use Rattle.ct_ledger.specs.declared.stage.Stage.{Stage}
 use Rattle.ct_ledger.specs.declared.stage.Stage.TheVariants.{Title, Size, Grade, Body, Closed}
-use Rattle.ct_ledger.specs.declared.stop.LedgerStop.{LedgerStop}
-use Rattle.ct_ledger.specs.declared.stop.LedgerStop.TheVariants.{Fault, Memory}
-use Rattle.ct_ledger.specs.Stops.{AtFault, Found}
 use Rattle.ct_ledger.specs.Parts.{LedgerParts, IsLedgerPair, AreSteps, HasNumbers, IsEntry, IsLedger}
 use Rattle.ct_ledger.specs.LedgerText.{title_words, size_words, grade_words, move_words, job_words, entry_words, end_words, head_lines, body_lines, ledger_lines, ledger_text, IsLedgerText}
 use Rattle.ct_ledger.specs.Grammar.{with_move, with_entry, may_move, move_line, walks_line, pair_line, body_line, next_line, is_closed, HasSize}
@@ -386,13 +385,10 @@ one_ledger k l good there is = same (one_value ledger_machine (Closed k) (Closed
     same : {k l : LedgerParts} → Closed k ≡ Closed l → k ≡ l
     same e = cc
 
-pub ok_from_found : (bytes : List ℕ) (answer : Result LedgerParts LedgerStop) → Found answer (read_from next_line is_closed 1 Title (split 10 bytes)) → IfOk answer (λ l. IsLedger l × (bytes ≡ ledger_text l))
+pub ledger_from_found : (bytes : List ℕ) (answer : Result LedgerParts TextStop) → Found Closed answer (read_from next_line is_closed 1 Title (split 10 bytes)) → IfOk answer (λ l. IsLedger l × (bytes ≡ ledger_text l))
 unfolding ledger_machine ledger_text
-ok_from_found bytes (Ok l) found = let p = text_from_ok ledger_machine bytes (Closed l) found in (p.0, p.2)
-ok_from_found bytes (Err stop) found = tt
+ledger_from_found bytes answer found = ok_from_found ledger_machine Closed bytes answer found
 
-pub fault_from_found : (bytes : List ℕ) (answer : Result LedgerParts LedgerStop) → Found answer (read_from next_line is_closed 1 Title (split 10 bytes)) → AtFault (IsFaultLine IsLedgerText bytes) answer
+pub ledger_fault : (bytes : List ℕ) (answer : Result LedgerParts TextStop) → Found Closed answer (read_from next_line is_closed 1 Title (split 10 bytes)) → AtFault (IsFaultLine IsLedgerText bytes) answer
 unfolding ledger_machine
-fault_from_found bytes (Ok l) found = tt
-fault_from_found bytes (Err Memory) found = tt
-fault_from_found bytes (Err (Fault line)) found = fault_from_err ledger_machine bytes line found
+ledger_fault bytes answer found = fault_from_found ledger_machine Closed bytes answer found

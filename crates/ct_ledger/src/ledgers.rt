@@ -4,12 +4,12 @@ ghost use Rattle.ct_lines.specs.FaultLine.{IsFaultLine};
 ghost use Rattle.ct_vectors.specs.declared.limits.TheConstants.{ROW_LIMIT, COLUMN_LIMIT, GRADE_LIMIT, MOVE_LIMIT};
 ghost use Rattle.ct_ledger.specs.Parts.{IsLedger, IsLedgerPoint, IsEntry};
 ghost use Rattle.ct_ledger.specs.LedgerText.{ledger_text, IsLedgerText};
-ghost use Rattle.ct_ledger.specs.Stops.{AtFault};
+ghost use Rattle.ct_lines.specs.Stops.{AtFault};
 
 use crate::entries::LedgerEntry;
 use crate::print::{push_entries, push_head, push_moves};
 use crate::reading::ledger_of;
-use crate::stop::LedgerStop;
+use ct_lines::TextStop as LedgerStop;
 use ct_point::Point;
 use std::alloc::{AllocError, Global};
 use std::marker::Model;

@@ -11,10 +11,9 @@ mod ledgers;
 mod print;
 mod reading;
 mod stage;
-mod stop;
 #[cfg(test)]
 mod tests;
 
+pub use ct_lines::TextStop as LedgerStop;
 pub use entries::LedgerEntry;
 pub use ledgers::Ledger;
-pub use stop::LedgerStop;

@@ -5,19 +5,18 @@ ghost use Rattle.ct_vectors.specs.declared.limits.TheConstants.{ROW_LIMIT, COLUM
 ghost use Rattle.ct_text.specs.Pieces.{split};
 ghost use Rattle.ct_lines.specs.Reading.{Gives, numbers_left};
 ghost use Rattle.ct_lines.specs.Wording.{read, read_from};
-ghost use Rattle.ct_ledger.specs.declared.stage.Stage.TheVariants.{Title, Size, Grade, Body};
+ghost use Rattle.ct_lines.specs.Stops.{Found};
+ghost use Rattle.ct_ledger.specs.declared.stage.Stage.{Stage as Seen};
+ghost use Rattle.ct_ledger.specs.declared.stage.Stage.TheVariants.{Title, Size, Grade, Body, Closed};
 ghost use Rattle.ct_ledger.specs.Parts.{HasNumbers};
-ghost use Rattle.ct_ledger.specs.Stops.{Found};
 ghost use Rattle.ct_ledger.specs.Grammar.{move_line, walks_line, pair_line, body_line, may_move as may_move_in, next_line, is_closed, HasSize};
 
 use crate::entries::LedgerEntry;
 use crate::ledgers::Ledger;
 use crate::stage::Stage;
-use crate::stop::LedgerStop;
 use ct_instance::Job;
-use ct_lines::{LineStop, Words};
+use ct_lines::{LineReader, LineStop, TextStop as LedgerStop, Words, read_text};
 use ct_point::{Point, Seq};
-use ct_text::Pieces;
 use ct_vectors::limits::{COLUMN_LIMIT, GRADE_LIMIT, MOVE_LIMIT, ROW_LIMIT};
 use std::alloc::Global;
 
@@ -152,53 +151,51 @@ fn in_body(alloc: Global, ledger: Ledger, words: &mut Words) -> Result<Stage, Li
     Ok(Stage::Closed(ledger))
 }
 
-// What was read after one line more.
-fn stage_after(alloc: Global, stage: Stage, line: &[u8]) -> Result<Stage, LineStop>
-    requires { HasSize stage }
-    ensures gives { Gives (λ after. after) result (read (next_line stage) (split 32 line.now)) }
-    ensures size { IfOk result HasSize }
-{
-    let mut words = Words::new(line);
-    match stage {
-        Stage::Title => after_title(&mut words),
-        Stage::Size => after_size(&mut words),
-        Stage::Grade { rows, columns } => after_grade(alloc, rows, columns, &mut words),
-        Stage::Body(ledger) => in_body(alloc, ledger, &mut words),
-        Stage::Closed(_) => Err(LineStop::Refused),
-    }
+// What a ledger text is read by.
+#[derive(Drop)]
+struct LedgerReader {
+    alloc: Global,
 }
 
-// What follows the last LF is no line: the text has ended, and nothing follows.
-#[tactic(auto, unfolding(ct_lines::specs::Wording::read_from))]
-fn at_end(stage: Stage, last: &[u8], number: u64) -> Result<Ledger, LedgerStop>
-    ensures { Found result (read_from next_line is_closed number stage (last.now ∷ [])) }
-{
-    if !last.is_empty() {
-        return Err(LedgerStop::Fault { line: number });
+impl LineReader for LedgerReader {
+    type Stage = Stage;
+
+    type Value = Ledger;
+
+    ghost Seen = { Seen };
+
+    ghost seen = { λ stage. stage };
+
+    ghost next_line = { next_line };
+
+    ghost is_closed = { is_closed };
+
+    ghost closed = { Closed };
+
+    ghost IsStage = { HasSize };
+
+    fn stage_after(&self, stage: Stage, line: &[u8]) -> Result<Stage, LineStop> {
+        let mut words = Words::new(line);
+        match stage {
+            Stage::Title => after_title(&mut words),
+            Stage::Size => after_size(&mut words),
+            Stage::Grade { rows, columns } => after_grade(self.alloc, rows, columns, &mut words),
+            Stage::Body(ledger) => in_body(self.alloc, ledger, &mut words),
+            Stage::Closed(_) => Err(LineStop::Refused),
+        }
     }
-    match stage {
-        Stage::Closed(ledger) => Ok(ledger),
-        _ => Err(LedgerStop::Fault { line: number }),
+
+    fn value_of(&self, stage: Stage) -> Option<Ledger> {
+        match stage {
+            Stage::Closed(ledger) => Some(ledger),
+            _ => None,
+        }
     }
 }
 
 // The ledger of the whole text.
 pub fn ledger_of(alloc: Global, bytes: &[u8]) -> Result<Ledger, LedgerStop>
-    ensures { Found result (read_from next_line is_closed 1 Title (split 10 bytes.now)) }
+    ensures { Found Closed result (read_from next_line is_closed 1 Title (split 10 bytes.now)) }
 {
-    let mut lines = Pieces::new(bytes, b'\n');
-    let mut stage = Stage::Title;
-    let mut number = 1u64;
-    while let Some(line) = lines.next() {
-        if lines.is_end() {
-            return at_end(stage, line, number);
-        }
-        match stage_after(alloc, stage, line) {
-            Ok(after) => stage = after,
-            Err(LineStop::Refused) => return Err(LedgerStop::Fault { line: number }),
-            Err(LineStop::Memory) => return Err(LedgerStop::Memory),
-        }
-        number += 1;
-    }
-    Err(LedgerStop::Fault { line: number })
+    read_text(&LedgerReader { alloc }, Stage::Title, bytes)
 }

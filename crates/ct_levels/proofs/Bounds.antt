@@ -13,7 +13,7 @@ use Rattle.ct_instance.specs.Jobs.{IsJob, all_jobs, job_grade_of, the_move}
 use Rattle.ct_instance.specs.Versions.{version_list, IsVersion}
 use Rattle.ct_instance.specs.Reach.{opened_grade, last_opened}
 use Rattle.ct_instance.proofs.Lists.{map_gives}
-use Rattle.ct_instance.proofs.Degree.{grade-add, grade-divides}
+use Rattle.ct_instance.proofs.Degree.{grade-lcm}
 use Rattle.ct_vectors.proofs.Sums.{total-limit}
 use Rattle.ct_instance.proofs.TestList.{move_is_sound}
 use Rattle.ct_instance.proofs.JobsList.{jobs_listed}
@@ -23,14 +23,6 @@ use Rattle.ct_walk.proofs.Steps.{move_at_listed}
 use Rattle.ct_levels.specs.Levels.{job_grades}
 use Rattle.ct_levels.proofs.Levels.{opened_is_next}
 use Rattle.ct_levels.proofs.Lists.{list_of_opened}
-
--- the grade of a least common multiple is at most the sum of the grades
-grade-lcm : (cs : List (List ℕ)) (p q : List ℕ) → length p ≡ length q → grade_of cs (lcm p q) ≤ grade_of cs p + grade_of cs q
-grade-lcm cs p q e =
-    let wide : length (lcm p q) ≤ length (add p q) = omega (arith, length-lcm p q, length-add_same p q e refl) in
-    let below : grade_of cs (lcm p q) ≤ grade_of cs (add p q) =
-    grade-divides cs (lcm p q) (add p q) wide (lcm-divides p q (add p q) (Divides-add_left p q) (Divides-add p q)) in
-    omega (arith, grade-add cs p q)
 
 -- a column's sum is within the limit of grades
 column_small : (i : Problem) → IsInstance i → (j : ℕ) → j < column_count i → total (get_or i.columns j []) ≤ ROW_LIMIT * ENTRY_LIMIT

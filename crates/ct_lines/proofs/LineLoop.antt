@@ -10,9 +10,6 @@ pub length-split-le : (separator : ℕ) (bytes : List ℕ) → length (split sep
 length-split-le separator bytes = omega (arith, length-slice_split (λ b. eqb b separator) bytes, count_by-le-length (λ b. eqb b separator) bytes)
 
 module _ {S : Type 0} (next : S → Wording S) (is_closed : S → Bool) (n : ℕ) (s : S) (line : List ℕ) (lines rest : List (List ℕ)) (whole : Result S ℕ) (so_far : read_from next is_closed n s lines ≡ whole) (first : lines ≡ line ∷ rest) where
-  pub last_line : rest ≡ [] → read_from next is_closed n s (line ∷ []) ≡ whole
-  last_line none = sym (ap (λ (others : List (List ℕ)). read_from next is_closed n s (line ∷ others)) none) ∙ sym (ap (read_from next is_closed n s) first) ∙ so_far
-
   line_of : (rest ≡ [] → ⊥) → or_fault n (read (next s) (split 32 line)) (λ t. read_from next is_closed (n + 1) t rest) ≡ whole
   unfolding read_from
   line_of some = go rest some ∙ sym (ap (read_from next is_closed n s) first) ∙ so_far

@@ -67,25 +67,6 @@ no_step_parts (word ∷ words) e = go (step_of word) refl e
     go None is e = rw is refl
     go (Some s) is e = absurd cc
 
-pub step_more : (front : List (ℕ × ℕ)) (step : ℕ × ℕ) (words rest : List (List ℕ)) (whole : List (ℕ × ℕ) × List (List ℕ)) → first_step words ≡ Some (step, rest)
-    → behind front (steps_left words) ≡ whole → behind (front ++ step ∷ []) (steps_left rest) ≡ whole
-step_more front step words rest whole one so_far =
-    let so : behind front (step ∷ (steps_left rest).0, (steps_left rest).1) ≡ whole = sym (ap (behind front) (step_parts words rest step one)) ∙ so_far in
-    rw (append_assoc front (step ∷ []) (steps_left rest).0) so
-
-pub step_end : (front : List (ℕ × ℕ)) (words : List (List ℕ)) (whole : List (ℕ × ℕ) × List (List ℕ)) → first_step words ≡ None
-    → behind front (steps_left words) ≡ whole → whole ≡ (front, words)
-step_end front words whole none so_far = sym so_far ∙ ap (behind front) (no_step_parts words none) ∙ rw append-nil refl
-
--- each step takes a word
-pub first_step-shorter : (words rest : List (List ℕ)) (step : ℕ × ℕ) → first_step words ≡ Some (step, rest) → suc (length rest) ≡ length words
-first_step-shorter [] rest step e = absurd cc
-first_step-shorter (word ∷ words) rest step e = go (step_of word) refl e
-  where
-    go : (found : Option (ℕ × ℕ)) → step_of word ≡ found → found_before words found ≡ Some (step, rest) → suc (length rest) ≡ length (word ∷ words)
-    go None is e = absurd cc
-    go (Some s) is e = rw (ap (λ (x : (ℕ × ℕ) × List (List ℕ)). x.1) (some_same e)) refl
-
 -- ---- items until their end
 
 module _ {X : Type 0} (one : List (List ℕ) → Option (X × List (List ℕ))) (stops : List (List ℕ) → Bool) (front : List X) (most : ℕ) (words : List (List ℕ)) (whole : Option (List X × List (List ℕ))) (so_far : with_front front (until_left one stops most words) ≡ whole) where

@@ -1,6 +1,7 @@
 -- What a text of lines owes, and the laws that it gets: it is read exactly where it is written, its fault line is exact,
 -- it is the text of one value, and no text is a proper prefix of another.
 use Rattle.std.proofs.Common.{◌≡◌, ◌≢◌, ℕ, ◌+◌, Bool, true, false, cond, ◌&&◌, eqb, List, [], ◌∷◌, ◌++◌, length, map, Option, Some, None, Result, Ok, Err, refl, sym, ap, subst, ◌∙◌, arith}
+use Rattle.std.specs.Prelude.{IfOk}
 use Rattle.std.specs.List.{join_with_byte}
 use Rattle.std.proofs.lemmas.List.{append-nil, length-append, length-map}
 use Rattle.std.proofs.lemmas.Bool.Decides.{nat_tests}
@@ -11,6 +12,9 @@ use Rattle.ct_lines.specs.Texts.{text_of}
 use Rattle.ct_lines.specs.Reading.{◌>>=◌}
 use Rattle.ct_lines.specs.Wording.{Wording, read, Spells, run, Runs, or_fault, read_from}
 use Rattle.ct_lines.specs.FaultLine.{Cause, not_there, stops, past_end, IsFaultLine}
+use Rattle.ct_lines.specs.declared.stop.TextStop.{TextStop}
+use Rattle.ct_lines.specs.declared.stop.TextStop.TheVariants.{Fault, Memory}
+use Rattle.ct_lines.specs.Stops.{AtFault, Found}
 use Rattle.ct_lines.proofs.TextLines.{AreSpelled, text_of-push, text_of-append, lines_lack, lines_front, line_front, lacks-cons}
 use Rattle.ct_lines.proofs.Spelling.{Fits, some_same, spells_from_read, read_from_spells}
 
@@ -121,9 +125,6 @@ module _ {S : Type 0} {Good : S → Type 0} {Is : List ℕ → Type 0} (m : Mach
 
   -- ---- the fault line
 
-  bytes_of : S → List ℕ
-  bytes_of s = text_of (m.said s)
-
   fault_below : (s : S) (rest bytes : List ℕ) (line : ℕ) → Good s → bytes ≡ text_of (m.said s) ++ rest → line ≡ length (m.said s) + 1 → Cause Is (text_of (m.said s)) rest → (Is bytes → ⊥) → IsFaultLine Is bytes line
   fault_below s rest bytes line good parts number cause no_text = record {
     above = map (join_with_byte 32) (m.said s);
@@ -228,3 +229,16 @@ module _ {S : Type 0} {Good : S → Type 0} {Is : List ℕ → Type 0} (m : Mach
   fault_from_err bytes line e =
       read_err (split 10 bytes) 1 line m.start bytes m.begins (split-lacks 10 bytes) (split-none 10 bytes)
       (sym (join-split 10 bytes) ∙ sym (ap (λ (lines : List (List (List ℕ))). text_of lines ++ join_with_byte 10 (split 10 bytes)) m.none_said)) (ap (λ (lines : List (List (List ℕ))). length lines + 1) (sym m.none_said)) e
+
+  -- ---- what a reader answers
+
+  pub ok_from_found : {X : Type 0} (closed : X → S) (bytes : List ℕ) (answer : Result X TextStop) → Found closed answer (read_from m.next m.is_closed 1 m.start (split 10 bytes))
+      → IfOk answer (λ x. Good (closed x) × (bytes ≡ text_of (m.said (closed x))))
+  ok_from_found closed bytes (Ok x) found = let p = text_from_ok bytes (closed x) found in (p.0, p.2)
+  ok_from_found closed bytes (Err stop) found = tt
+
+  pub fault_from_found : {X : Type 0} (closed : X → S) (bytes : List ℕ) (answer : Result X TextStop) → Found closed answer (read_from m.next m.is_closed 1 m.start (split 10 bytes))
+      → AtFault (IsFaultLine Is bytes) answer
+  fault_from_found closed bytes (Ok x) found = tt
+  fault_from_found closed bytes (Err Memory) found = tt
+  fault_from_found closed bytes (Err (Fault line)) found = fault_from_err bytes line found

@@ -18,10 +18,6 @@ AreSpelled lines = AllByRecursion IsSpelled lines
 
 -- ---- append
 
-pub ended-append : (xs ys : List (List ℕ)) → ended (xs ++ ys) ≡ ended xs ++ ended ys
-ended-append [] ys = refl
-ended-append (x ∷ xs) ys = ap (λ (rest : List ℕ). x ++ (10 ∷ rest)) (ended-append xs ys) ∙ sym (append_assoc x (10 ∷ ended xs) (ended ys))
-
 pub text_of-append : (xs ys : List (List (List ℕ))) → text_of (xs ++ ys) ≡ text_of xs ++ text_of ys
 text_of-append [] ys = refl
 text_of-append (x ∷ xs) ys = ap (λ (rest : List ℕ). join_with_byte 32 x ++ (10 ∷ rest)) (text_of-append xs ys) ∙ sym (append_assoc (join_with_byte 32 x) (10 ∷ text_of xs) (text_of ys))

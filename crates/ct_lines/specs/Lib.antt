@@ -2,3 +2,4 @@ pub mod Texts
 pub mod Reading
 pub mod Wording
 pub mod FaultLine
+pub mod Stops

@@ -1,5 +1,5 @@
 -- The refined order is a total order up to coordinates that are missing, and adding a point to both sides keeps it.
-use Rattle.std.proofs.Common.{ℕ, ℤ, pos, ◌+◌, ◌≤◌, ◌<◌, ◌+ℤ◌, ◌*ℤ◌, ◌<ℤ◌, ◌≡◌, ◌⊎◌, inl, inr, Bool, true, false, true≢false, List, [], ◌∷◌, length, drop, Ordering, Less, Equal, Greater, is_lt, refl, sym, subst, ap, ap₂, ◌∙◌, arith}
+use Rattle.std.proofs.Common.{ℕ, ℤ, pos, ◌+◌, ◌≤◌, ◌<◌, ◌+ℤ◌, ◌*ℤ◌, ◌<ℤ◌, ◌≡◌, ◌⊎◌, inl, inr, true, true≢false, List, [], ◌∷◌, length, drop, Ordering, Less, Equal, Greater, is_lt, refl, sym, subst, ap, ap₂, ◌∙◌, arith}
 use Rattle.std.specs.Ordering.{nat_cmp, int_cmp, ordering_then, ordering_reverse, MatchOrdering}
 use Rattle.std.specs.Cmp.{IsTotalOrder, ranks, int_ranks, nat_cmp_is, int_cmp_is, nat_cmp_total, int_cmp_total, on_total, then_total, alike_right, tied_itself}
 use Rattle.std.proofs.lemmas.Int.{ints}
@@ -145,13 +145,6 @@ Less-from_test Greater e = absurd (true≢false (sym e))
 pub test_from_Less : (o : Ordering) → o ≡ Less → is_lt o ≡ true
 test_from_Less o e = ap is_lt e
 
-pub dec_below : (n : ℕ) (rows : List (List ℤ)) (p q : List ℕ) → IsBelow n rows p q ⊎ (IsBelow n rows p q → ⊥)
-dec_below n rows p q = go (is_lt (refined_order n rows p q)) refl
-  where
-    go : (b : Bool) → is_lt (refined_order n rows p q) ≡ b → IsBelow n rows p q ⊎ (IsBelow n rows p q → ⊥)
-    go true e = inl (Less-from_test (refined_order n rows p q) e)
-    go false e = inr (λ b. true≢false (sym (ap is_lt b) ∙ e))
-
 -- ---- adding a point to both sides
 
 nat_cmp_shift : (a b x y z : ℕ) → a ≡ x + z → b ≡ y + z → nat_cmp a b ≡ nat_cmp x y
@@ -213,9 +206,6 @@ below-add n rows p q r b = order-add n rows p q r ∙ b
 pub below-add_left : (n : ℕ) (rows : List (List ℤ)) (r p q : List ℕ) → IsBelow n rows p q → IsBelow n rows (add r p) (add r q)
 below-add_left n rows r p q b = order-add_left n rows r p q ∙ b
 
-pub below_from_sums : (n : ℕ) (rows : List (List ℤ)) (p q r : List ℕ) → IsBelow n rows (add p r) (add q r) → IsBelow n rows p q
-below_from_sums n rows p q r b = sym (order-add n rows p q r) ∙ b
-
 -- what is below has no greater artificial total
 pub art_total-below : (n : ℕ) (rows : List (List ℤ)) (p q : List ℕ) → IsBelow n rows p q → art_total_of n p ≤ art_total_of n q
 art_total-below n rows p q b = go (nat_cmp (art_total_of n p) (art_total_of n q)) (ranks (art_total_of n p) (art_total_of n q)) b
@@ -225,8 +215,3 @@ art_total-below n rows p q b = go (nat_cmp (art_total_of n p) (art_total_of n q)
     go Less h e = omega arith
     go Equal h e = omega arith
     go Greater h e = absurd (grind arith)
-
--- a smaller artificial total is below
-pub below_from_art_total : (n : ℕ) (rows : List (List ℤ)) (p q : List ℕ) → art_total_of n p < art_total_of n q → IsBelow n rows p q
-below_from_art_total n rows p q h =
-    ap (λ o. ordering_then o (cost_order rows p q)) (sym (nat_cmp_is (art_total_of n p) (art_total_of n q) Less h))

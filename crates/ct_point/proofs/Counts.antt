@@ -1,7 +1,7 @@
 -- Tests and counts that go over two lists place by place.
-use Rattle.std.proofs.Common.{◌≡◌, ℕ, ◌+◌, ◌*◌, ◌/◌, ◌%◌, ◌^◌, min, below_more, ◌-◌, ◌≤◌, ◌<◌, ◌⊎◌, inl, inr, List, ◌∷◌, length, get_or, drop, refl, sym, ap, ◌∙◌, subst, arith, Bool, true, false, ◌&&◌, ◌||◌, nat_le, nat_eq}
-use Rattle.std.proofs.lemmas.List.{drop_more, drop_all, get_or_past}
-use Rattle.ct_vectors.specs.Vectors.{total, scale, Divides, divides, disjoint, IsTimes}
+use Rattle.std.proofs.Common.{◌≡◌, ℕ, ◌+◌, ◌*◌, ◌/◌, ◌%◌, ◌^◌, min, below_more, ◌-◌, ◌≤◌, ◌<◌, ◌⊎◌, inl, inr, List, ◌∷◌, length, get_or, drop, refl, sym, ap, ◌∙◌, subst, arith, Bool, true, false, ◌&&◌, ◌||◌, nat_eq}
+use Rattle.std.proofs.lemmas.List.{drop_more, get_or_past}
+use Rattle.ct_vectors.specs.Vectors.{total, scale, Divides, disjoint, IsTimes}
 use Rattle.ct_vectors.proofs.Divisors.{Divides-at, Divides-from_at}
 use Rattle.ct_point.proofs.Places.{get_or-scale, total-zero}
 
@@ -14,43 +14,12 @@ and_true : (a b : Bool) → a ≡ true → (a && b) ≡ b
 and_true true b e = refl
 and_true false b e = cc
 
-and_false : (a b : Bool) → a ≡ false → (a && b) ≡ false
-and_false true b e = cc
-and_false false b e = refl
-
-nat_le-true : (x y : ℕ) → x ≤ y → nat_le x y ≡ true
-nat_le-true x y h = grind arith
-
-nat_le-false : (x y : ℕ) → y < x → nat_le x y ≡ false
-nat_le-false x y h = grind arith
-
-pub divides_more : (p q : List ℕ) (i : ℕ) → i < length p → i < length q → get_or p i 0 ≤ get_or q i 0 →
-    divides (drop i p) (drop i q) ≡ divides (drop (i + 1) p) (drop (i + 1) q)
-divides_more p q i l k h = at_place divides p q i l k ∙ and_true _ _ (nat_le-true (get_or p i 0) (get_or q i 0) h)
-
-pub divides_stop : (p q : List ℕ) (i : ℕ) → i < length p → i < length q → get_or q i 0 < get_or p i 0 →
-    divides (drop i p) (drop i q) ≡ false
-divides_stop p q i l k h = at_place divides p q i l k ∙ and_false _ _ (nat_le-false (get_or p i 0) (get_or q i 0) h)
-
-pub divides_end : (p q : List ℕ) (i : ℕ) → length p ≤ i → divides (drop i p) q ≡ true
-divides_end p q i l = ap (λ r. divides r q) (drop_all i p l)
-
 some_zero : (x y : ℕ) → (x ≡ 0) ⊎ (y ≡ 0) → (nat_eq x 0 || nat_eq y 0) ≡ true
 some_zero x y h = grind arith
-
-none_zero : (x y : ℕ) → 0 < x → 0 < y → (nat_eq x 0 || nat_eq y 0) ≡ false
-none_zero x y h k = grind arith
 
 pub disjoint_more : (p q : List ℕ) (i : ℕ) → i < length p → i < length q → (get_or p i 0 ≡ 0) ⊎ (get_or q i 0 ≡ 0) →
     disjoint (drop i p) (drop i q) ≡ disjoint (drop (i + 1) p) (drop (i + 1) q)
 disjoint_more p q i l k h = at_place disjoint p q i l k ∙ and_true _ _ (some_zero (get_or p i 0) (get_or q i 0) h)
-
-pub disjoint_stop : (p q : List ℕ) (i : ℕ) → i < length p → i < length q → 0 < get_or p i 0 → 0 < get_or q i 0 →
-    disjoint (drop i p) (drop i q) ≡ false
-disjoint_stop p q i l k h m = at_place disjoint p q i l k ∙ and_false _ _ (none_zero (get_or p i 0) (get_or q i 0) h m)
-
-pub disjoint_end : (p q : List ℕ) (i : ℕ) → length p ≤ i → disjoint (drop i p) q ≡ true
-disjoint_end p q i l = ap (λ r. disjoint r q) (drop_all i p l)
 
 count_below : (s t h x : ℕ) → s * h ≤ x → x < t * h + h → s ≤ t
 count_below s t h x fit over = grind arith
@@ -71,9 +40,6 @@ fits_less s t h x l k = grind arith
 
 nothing_fits : (t h x : ℕ) → h ≡ 0 → t * h ≤ x
 nothing_fits t h x e = subst (λ z. t * z ≤ x) (sym e) (omega arith)
-
-pub IsLeastQuotient-start : (head p : List ℕ) → IsLeastQuotient head p (2 ^ 64 - 1) 0
-IsLeastQuotient-start head p = record { fits = λ k l. absurd (omega arith); some = inr ((λ k l. absurd (omega arith)), refl) }
 
 pub IsLeastQuotient-same : (head p : List ℕ) (t i : ℕ) → get_or head i 0 ≡ 0 → IsLeastQuotient head p t i → IsLeastQuotient head p t (i + 1)
 IsLeastQuotient-same head p t i none q = record {

@@ -1,14 +1,11 @@
 -- A loop that writes the places of a list one after another.
-use Rattle.std.proofs.Common.{◌≡◌, ℕ, ◌+◌, ◌≤◌, ◌<◌, List, [], ◌∷◌, ◌++◌, length, get_or, set, take, drop, refl, sym, ap, ◌∙◌, arith}
+use Rattle.std.proofs.Common.{◌≡◌, ℕ, ◌+◌, ◌≤◌, ◌<◌, List, [], ◌∷◌, ◌++◌, length, get_or, set, take, drop, sym, ap, ◌∙◌, arith}
 use Rattle.std.proofs.lemmas.List.{take_more_set, take_more, drop_more, take_all, get_or-drop, drop-set-lt}
 
 -- the first i places of now are those of end, and the others are still those of before
 pub record IsWritten (end before now : List ℕ) (i : ℕ) : Type 0 where
   pub done : take i now ≡ take i end
   pub left : drop i now ≡ drop i before
-
-pub IsWritten-start : (end before : List ℕ) → IsWritten end before before 0
-IsWritten-start end before = record { done = refl; left = refl }
 
 pub get_or-written : (end before now : List ℕ) (i : ℕ) → IsWritten end before now i → get_or now i 0 ≡ get_or before i 0
 get_or-written end before now i w =

@@ -1,13 +1,13 @@
+//! The point, over the loops of `slices`.
 ghost use Rattle.std.specs.Prelude.{◌≡◌, ℕ, ◌+◌, ◌-◌, ◌++◌, take, ◌^◌, ◌<◌, ◌≤◌, List, length, slice_set, All, IfOk, IfSome, IsSome, ◌↔◌};
 ghost use Rattle.ct_vectors.specs.Vectors.{add, subtract, scale, lcm, total, zeros, Divides, divides, disjoint, IsTimes};
+ghost use Rattle.ct_vectors.specs.declared.limits.TheConstants.{WIDTH_LIMIT};
 
 use crate::slices;
+use ct_vectors::limits::WIDTH_LIMIT;
 use smallvec::SmallVec;
 use std::alloc::{AllocError, Global};
 use std::marker::Model;
-
-// How many coordinates a point has at most.
-const WIDEST: usize = 80;
 
 /// A vector of natural numbers below 2^64, seen as its list. Its width is 1 to 80 and never changes.
 ///
@@ -23,24 +23,24 @@ impl Model for Point {
 
     ghost view = { λ p. p.places.items };
 
-    ghost invariant = { λ p. (1 ≤ length p.places.items) × (length p.places.items ≤ 80) };
+    ghost invariant = { λ p. (1 ≤ length p.places.items) × (length p.places.items ≤ WIDTH_LIMIT) };
 }
 
 impl Point {
     /// The point with all coordinates 0.
     pub fn zero(alloc: Global, width: usize) -> Result<Point, AllocError>
         requires some { 1 ≤ width }
-        requires limit { width ≤ 80 }
+        requires limit { width ≤ WIDTH_LIMIT }
         ensures { IfOk result (λ p. p ≡ zeros width) }
     {
-        let nothing = [0u64; WIDEST];
+        let nothing = [0u64; WIDTH_LIMIT];
         Point::from_slice(alloc, &nothing[..width])
     }
 
     /// The point with these coordinates.
     pub fn from_slice(alloc: Global, c: &[u64]) -> Result<Point, AllocError>
         requires some { 1 ≤ length c.now }
-        requires limit { length c.now ≤ 80 }
+        requires limit { length c.now ≤ WIDTH_LIMIT }
         ensures { IfOk result (λ p. p ≡ c.now) }
     {
         let places = SmallVec::from_slice(alloc, c)?;
@@ -66,7 +66,7 @@ impl Point {
     pub fn as_slice(&self) -> &[u64]
         ensures coordinates { result.now ≡ self.now }
         ensures some { 1 ≤ length result.now }
-        ensures limit { length result.now ≤ 80 }
+        ensures limit { length result.now ≤ WIDTH_LIMIT }
     {
         self.places.as_slice()
     }

@@ -1,3 +1,4 @@
+//! A vector that clauses see as its items.
 ghost use Rattle.std.specs.Prelude.{◌≡◌, List};
 
 use std::marker::Model;

@@ -13,12 +13,11 @@ use Rattle.ct_lines.specs.Reading.{is_next}
 use Rattle.ct_lines.specs.Wording.{Wording, barred, Spells, Runs, read_from}
 use Rattle.ct_lines.specs.FaultLine.{IsFaultLine}
 use Rattle.ct_text.specs.Pieces.{split}
-use Rattle.ct_report.specs.declared.stop.ReportStop.{ReportStop}
-use Rattle.ct_report.specs.declared.stop.ReportStop.TheVariants.{Fault, Memory}
-use Rattle.ct_report.specs.Stops.{AtFault, Found}
+use Rattle.ct_lines.specs.declared.stop.TextStop.{TextStop}
+use Rattle.ct_lines.specs.Stops.{AtFault, Found}
 use Rattle.ct_lines.proofs.TextLines.{IsSpelled, AreSpelled}
 use Rattle.ct_lines.proofs.Spelling.{Fits, AreWords, words_append, word_decimal, words_numbers, words_signed, words_walk, spelled_line, not_number}
-use Rattle.ct_lines.proofs.Machines.{Machine, Runs-append, one_value, text_from_ok, fault_from_err}
+use Rattle.ct_lines.proofs.Machines.{Machine, Runs-append, one_value, ok_from_found, fault_from_found}
 use Rattle.ct_version.specs.declared.answers.Answer.{Answer}
 use Rattle.ct_version.specs.declared.answers.Answer.TheVariants.{Optimum, Infeasible}
 use Rattle.ct_version.specs.declared.finished.Finished.{Finished}
@@ -29,7 +28,7 @@ use Rattle.ct_report.specs.declared.reports.PhaseReport.{PhaseReport}
 use Rattle.ct_report.specs.declared.reports.Report.{Report}
 use Rattle.ct_report.specs.ReportText.{title_words, phase_words, session_words, answer_words, walk_line_words, level_words, end_words, line_lines, sessions_lines, level_lines, phase_lines, phases_lines, report_lines, report_text}
 use Rattle.ct_report.specs.Limits.{IsAnswer, IsLine, IsLevel, IsCount, IsPhase, IsReport, IsReportText}
-use Rattle.ct_report.specs.Grammar.{Stage, title, between, in_phase, in_session, in_answer, closed, one_more, phase_of, next_number, if_room, between_line, phase_line, optimum_line, session_line, answer_line, next_line, is_closed}
+use Rattle.ct_report.specs.Grammar.{Stage, title, between, in_phase, in_session, in_answer, closed, one_more, phase_of, next_number, if_room, between_line, phase_line, optimum_line, session_line, answer_line, next_line, is_closed, closed_of}
 
 abbrev pub Lines : Type 0
 Lines = List (List (List ℕ))
@@ -556,13 +555,12 @@ one_report k l good there is =
     same : {ps qs : List PhaseReport} → closed ps ≡ closed qs → report_of ps ≡ report_of qs
     same e = ap report_of (inner e)
 
-pub ok_from_found : (bytes : List ℕ) (answer : Result Report ReportStop) → Found answer (read_from next_line is_closed 1 title (split 10 bytes)) → IfOk answer (λ r. IsReport r × (bytes ≡ report_text r))
+pub report_from_found : (bytes : List ℕ) (answer : Result Report TextStop) → Found closed_of answer (read_from next_line is_closed 1 title (split 10 bytes)) → IfOk answer (λ r. IsReport r × (bytes ≡ report_text r))
 unfolding report_machine report_text
-ok_from_found bytes (Ok r) found = let p = text_from_ok report_machine bytes (closed r.phases) found in (record { count = p.0.0.count; phases = p.0.0.all }, p.2)
-ok_from_found bytes (Err stop) found = tt
+report_from_found bytes (Ok r) found =
+    let p = ok_from_found report_machine closed_of bytes (Ok r) found in (record { count = p.0.0.count; phases = p.0.0.all }, p.1)
+report_from_found bytes (Err stop) found = tt
 
-pub fault_from_found : (bytes : List ℕ) (answer : Result Report ReportStop) → Found answer (read_from next_line is_closed 1 title (split 10 bytes)) → AtFault (IsFaultLine IsReportText bytes) answer
+pub report_fault : (bytes : List ℕ) (answer : Result Report TextStop) → Found closed_of answer (read_from next_line is_closed 1 title (split 10 bytes)) → AtFault (IsFaultLine IsReportText bytes) answer
 unfolding report_machine
-fault_from_found bytes (Ok l) found = tt
-fault_from_found bytes (Err Memory) found = tt
-fault_from_found bytes (Err (Fault line)) found = fault_from_err report_machine bytes line found
+report_fault bytes answer found = fault_from_found report_machine closed_of bytes answer found

@@ -9,6 +9,7 @@ use Rattle.ct_version.specs.declared.finished.Finished.TheVariants.{Upto, All}
 use Rattle.ct_session.specs.declared.lines.Line.{Line}
 use Rattle.ct_session.specs.declared.lines.Line.TheVariants.{Answered, NotYet, Full}
 use Rattle.ct_report.specs.declared.reports.PhaseReport.{PhaseReport}
+use Rattle.ct_report.specs.declared.reports.Report.{Report}
 use Rattle.ct_report.specs.declared.stage.Stage.{Stage as Reading}
 use Rattle.ct_report.specs.declared.stage.Stage.TheVariants as reading
 
@@ -90,3 +91,7 @@ next_line (closed phases) = barred
 abbrev pub is_closed : Stage → Bool
 is_closed (closed phases) = true
 is_closed _ = false
+
+-- what was read of the text of a report, once it is closed
+abbrev pub closed_of : Report → Stage
+closed_of r = closed r.phases

@@ -9,10 +9,9 @@ mod print;
 mod reading;
 mod reports;
 mod stage;
-mod stop;
 
+pub use ct_lines::TextStop as ReportStop;
 pub use reports::{PhaseReport, Report};
-pub use stop::ReportStop;
 
 #[cfg(test)]
 mod tests;

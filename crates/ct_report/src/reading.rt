@@ -1,20 +1,18 @@
 //! The reader of a report text.
 
-ghost use Rattle.std.specs.Prelude.{◌≡◌, ◌∷◌, [], MatchResult};
+ghost use Rattle.std.specs.Prelude.{◌≡◌, MatchResult};
 ghost use Rattle.ct_text.specs.Pieces.{split};
 ghost use Rattle.ct_lines.specs.Reading.{Gives};
 ghost use Rattle.ct_lines.specs.Wording.{read, read_from};
-ghost use Rattle.ct_report.specs.Stops.{Found};
-ghost use Rattle.ct_report.specs.Grammar.{title, seen, one_more, phase_of, between_line, phase_line, optimum_line, session_line, answer_line, next_line, is_closed};
+ghost use Rattle.ct_lines.specs.Stops.{Found};
+ghost use Rattle.ct_report.specs.Grammar.{Stage as Seen, title, seen, closed_of, one_more, phase_of, between_line, phase_line, optimum_line, session_line, answer_line, next_line, is_closed};
 
 use crate::reports::{PhaseReport, Report};
 use crate::stage::Stage;
-use crate::stop::ReportStop;
-use ct_lines::{LineStop, Words};
+use ct_lines::{LineReader, LineStop, TextStop as ReportStop, Words, read_text};
 use ct_order::CostList;
 use ct_point::{Point, Seq};
 use ct_session::Line;
-use ct_text::Pieces;
 use ct_vectors::limits::{COLUMN_LIMIT, COST_LIMIT, COST_ROW_LIMIT, GRADE_LIMIT, JOB_GRADE_LIMIT};
 use ct_version::{Answer, Finished};
 use std::alloc::Global;
@@ -187,58 +185,59 @@ fn after_answer(
     after_lines(alloc, phases, sessions, lines, words)
 }
 
-// What was read after one line more.
-fn stage_after(alloc: Global, stage: Stage, line: &[u8]) -> Result<Stage, LineStop>
-    ensures { Gives seen result (read (next_line (seen stage)) (split 32 line.now)) }
-{
-    let mut words = Words::new(line);
-    match stage {
-        Stage::Title => after_title(alloc, &mut words),
-        Stage::Between(phases) => after_phases(alloc, phases, &mut words),
-        Stage::InPhase(phases, sessions) => after_sessions(alloc, phases, sessions, &mut words),
-        Stage::InSession(phases, sessions, lines) => {
-            after_lines(alloc, phases, sessions, lines, &mut words)
-        }
-        Stage::InAnswer(phases, sessions, lines, answer) => {
-            after_answer(alloc, phases, sessions, lines, answer, &mut words)
-        }
-        Stage::Closed(_) => Err(LineStop::Refused),
-    }
+// What a report text is read by.
+#[derive(Drop)]
+struct ReportReader {
+    alloc: Global,
 }
 
-// What follows the last LF is no line: the text has ended, and nothing follows.
-#[tactic(auto, unfolding(ct_lines::specs::Wording::read_from))]
-fn at_end(stage: Stage, last: &[u8], number: u64) -> Result<Report, ReportStop>
-    ensures { Found result (read_from next_line is_closed number (seen stage) (last.now ∷ [])) }
-{
-    if !last.is_empty() {
-        return Err(ReportStop::Fault { line: number });
+impl LineReader for ReportReader {
+    type Stage = Stage;
+
+    type Value = Report;
+
+    ghost Seen = { Seen };
+
+    ghost seen = { seen };
+
+    ghost next_line = { next_line };
+
+    ghost is_closed = { is_closed };
+
+    ghost closed = { closed_of };
+
+    ghost IsStage = { λ _. Unit {0} };
+
+    fn stage_after(&self, stage: Stage, line: &[u8]) -> Result<Stage, LineStop> {
+        let alloc = self.alloc;
+        let mut words = Words::new(line);
+        match stage {
+            Stage::Title => after_title(alloc, &mut words),
+            Stage::Between(phases) => after_phases(alloc, phases, &mut words),
+            Stage::InPhase(phases, sessions) => after_sessions(alloc, phases, sessions, &mut words),
+            Stage::InSession(phases, sessions, lines) => {
+                after_lines(alloc, phases, sessions, lines, &mut words)
+            }
+            Stage::InAnswer(phases, sessions, lines, answer) => {
+                after_answer(alloc, phases, sessions, lines, answer, &mut words)
+            }
+            Stage::Closed(_) => Err(LineStop::Refused),
+        }
     }
-    match stage {
-        Stage::Closed(phases) => Ok(Report {
-            phases: Seq::from_vec(phases),
-        }),
-        _ => Err(ReportStop::Fault { line: number }),
+
+    fn value_of(&self, stage: Stage) -> Option<Report> {
+        match stage {
+            Stage::Closed(phases) => Some(Report {
+                phases: Seq::from_vec(phases),
+            }),
+            _ => None,
+        }
     }
 }
 
 // The report of the whole text.
 pub fn report_of(alloc: Global, bytes: &[u8]) -> Result<Report, ReportStop>
-    ensures { Found result (read_from next_line is_closed 1 title (split 10 bytes.now)) }
+    ensures { Found closed_of result (read_from next_line is_closed 1 title (split 10 bytes.now)) }
 {
-    let mut lines = Pieces::new(bytes, b'\n');
-    let mut stage = Stage::Title;
-    let mut number = 1u64;
-    while let Some(line) = lines.next() {
-        if lines.is_end() {
-            return at_end(stage, line, number);
-        }
-        match stage_after(alloc, stage, line) {
-            Ok(after) => stage = after,
-            Err(LineStop::Refused) => return Err(ReportStop::Fault { line: number }),
-            Err(LineStop::Memory) => return Err(ReportStop::Memory),
-        }
-        number += 1;
-    }
-    Err(ReportStop::Fault { line: number })
+    read_text(&ReportReader { alloc }, Stage::Title, bytes)
 }

@@ -4,11 +4,11 @@ ghost use Rattle.std.specs.Prelude.{◌≡◌, IfOk};
 ghost use Rattle.ct_lines.specs.FaultLine.{IsFaultLine};
 ghost use Rattle.ct_report.specs.ReportText.{report_text};
 ghost use Rattle.ct_report.specs.Limits.{IsReport, IsReportText};
-ghost use Rattle.ct_report.specs.Stops.{AtFault};
+ghost use Rattle.ct_lines.specs.Stops.{AtFault};
 
 use crate::print::push_phases;
 use crate::reading::report_of;
-use crate::stop::ReportStop;
+use ct_lines::TextStop as ReportStop;
 use ct_point::Seq;
 use ct_session::Line;
 use ct_version::Finished;

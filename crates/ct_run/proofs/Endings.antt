@@ -42,7 +42,7 @@ ending_unstopped : (outcome : RunOutcome) (status : Status) (text : List â„•) â†
 ending_unstopped usage status text h = ap is_stop h.0
 ending_unstopped (bad_instance fault) status text h = ap is_stop h.0
 ending_unstopped (bad_sessions fault) status text h = ap is_stop h.0
-ending_unstopped (answered i script) status text h = ap is_stop h.0
+ending_unstopped (answered c script) status text h = ap is_stop h.0
 ending_unstopped (certified i grade) status text h = ap is_stop h.0
 ending_unstopped (full grade) status text h = ap is_stop h.0
 ending_unstopped (checked i bytes) status text h = checked_unstopped i bytes status text h

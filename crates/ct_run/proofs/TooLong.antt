@@ -1,19 +1,31 @@
 -- A file over its limit has that fault, whatever of it was read past the limit.
-use Rattle.std.proofs.Common.{◌≡◌, ℕ, ◌+◌, ◌<◌, List, length, take, Result, Err, ⊎_elim, refl, ap, sym, ◌∙◌, arith, length-take}
+use Rattle.std.proofs.Common.{◌≡◌, ℕ, ◌+◌, ◌<◌, Bool, true, false, if◌then◌else◌, List, length, take, Result, Err, ⊎_elim, refl, ap, sym, ◌∙◌, arith, length-take}
 use Rattle.std.proofs.lemmas.Bool.{cases_lt, lt-ltb}
 use Rattle.std.proofs.lemmas.List.{take_all}
 use Rattle.ct_input.specs.declared.limits.TheConstants.{INSTANCE_FILE_LIMIT, SESSION_FILE_LIMIT}
 use Rattle.ct_input.specs.declared.fault.Fault.{Fault}
 use Rattle.ct_input.specs.declared.fault.Fault.TheVariants.{TooLong}
-use Rattle.ct_input.specs.Files.{instance_file, session_file}
+use Rattle.ct_input.specs.Files as texts
+use Rattle.ct_json.specs.Values.{is_json}
+use Rattle.ct_json.specs.Files.{instance_json, sessions_json}
+use Rattle.ct_run.specs.Forms.{instance_file, session_file}
+
+-- the same in either form
+either : {A : Type 0} (test : Bool) (first second value : A) → first ≡ value → second ≡ value → (if test then first else second) ≡ value
+either true first second value is same = is
+either false first second value is same = same
 
 instance-too_long : (bytes : List ℕ) → INSTANCE_FILE_LIMIT < length bytes → instance_file bytes ≡ Err TooLong
-unfolding instance_file
-instance-too_long bytes long = rw (lt-ltb INSTANCE_FILE_LIMIT (length bytes) long) refl
+unfolding instance_file instance_json texts.instance_file
+instance-too_long bytes long =
+    let over = lt-ltb INSTANCE_FILE_LIMIT (length bytes) long in
+    either (is_json bytes) (instance_json bytes) (texts.instance_file bytes) (Err TooLong) (rw over refl) (rw over refl)
 
 sessions-too_long : (m : ℕ) (bytes : List ℕ) → SESSION_FILE_LIMIT < length bytes → session_file m bytes ≡ Err TooLong
-unfolding session_file
-sessions-too_long m bytes long = rw (lt-ltb SESSION_FILE_LIMIT (length bytes) long) refl
+unfolding session_file sessions_json texts.session_file
+sessions-too_long m bytes long =
+    let over = lt-ltb SESSION_FILE_LIMIT (length bytes) long in
+    either (is_json bytes) (sessions_json m bytes) (texts.session_file m bytes) (Err TooLong) (rw over refl) (rw over refl)
 
 -- what a file stands for that has a limit is told by the bytes up to the limit and one more
 front_tells : {A : Type 0} (value_of : List ℕ → Result A Fault) (limit : ℕ) → ((bytes : List ℕ) → limit < length bytes → value_of bytes ≡ Err TooLong) →

@@ -1,17 +1,15 @@
--- The definitions on worked examples, by computation: coins of 3 and 5 at cost 2 and 3.
+-- The definitions on worked examples, by computation.
 use Rattle.std.proofs.Common.{pos, negsuc, ◌≡◌, ℕ, Bool, true, false, List, ◌++◌, [], ◌∷◌, Option, None, Some, Result, Ok, Err, refl, codes}
 use Rattle.std.specs.Fmt.{digits}
 use Rattle.ct_instance.specs.Instance.{Problem}
-use Rattle.ct_instance.specs.Fiber.{fiber_of, least_of}
-use Rattle.ct_instance.specs.Answer.{optimum}
 use Rattle.ct_input.specs.declared.fault.Fault.TheVariants.{TooLong, Text}
 use Rattle.ct_input.specs.declared.fault.TextReason.TheVariants.{ZeroColumn}
-use Rattle.ct_input.specs.declared.script.Request.TheVariants.{Ask, Solve}
 use Rattle.ct_input.specs.declared.script.Script.{Script}
-use Rattle.ct_run.specs.Report.{newline, line_text, report_text, answers_of}
+use Rattle.ct_legal.specs.Cases.{Case}
+use Rattle.ct_run.specs.Texts.{newline}
 use Rattle.ct_outside.specs.Shelf.{Told, untold, absent, holds}
 use Rattle.ct_input.specs.declared.fault.Fault.{Fault}
-use Rattle.ct_input.specs.Files.{instance_file, session_file}
+use Rattle.ct_run.specs.Forms.{instance_file, session_file}
 use Rattle.ct_run.specs.declared.status.Status.TheVariants.{Done, Usage, BadInstance, BadSessions, BadLedger, LedgerRefused, Full}
 use Rattle.ct_text.specs.Numbers.{natural_of}
 use Rattle.ct_words.specs.Parts.{parts_of}
@@ -24,26 +22,8 @@ use Rattle.ct_checker.specs.declared.verdicts.Verdict.TheVariants.{Accepted, Ref
 use Rattle.ct_checker.specs.Checking.{verdict_of}
 use Rattle.ct_run.specs.Checked.{IsVerdictEnding, IsChecked, over, faulty, weighed}
 use Rattle.ct_run.specs.Outcome.{bad_instance, bad_sessions, answered, IsEnding, Wrote}
-use Rattle.ct_run.specs.Plan.{ends, by_value, ledger_or_full, work_plan, instance_name, is_unbuilt, plan_unless, plan_of}
+use Rattle.ct_run.specs.Plan.{ends, by_value, case_of, ledger_or_full, work_plan, instance_name, plan_of}
 use Rattle.ct_run.specs.Running.{HasBytes, Ends}
-
-abbrev coins : Problem
-coins = record { rows = 1; columns = (3 ∷ []) ∷ (5 ∷ []) ∷ []; cost_rows = (pos 2 ∷ pos 3 ∷ []) ∷ [] }
-
-abbrev one_session : Script
-one_session = record { phases = record { target = 0; sessions = (Solve (15 ∷ []) ∷ Ask (7 ∷ []) ∷ []) ∷ [] } ∷ [] }
-
-line_of_gain : line_text (optimum (2 ∷ 0 ∷ []) (negsuc 1 ∷ [])) ≡ codes "optimum -2 at 2 0" ++ newline
-unfolding digits
-line_of_gain = refl
-
-two_answers : report_text (answers_of coins one_session) ≡
-    codes "report 1" ++ newline ++ codes "phase 1" ++ newline ++ codes "session 1" ++ newline ++ codes "optimum 9 at 0 3" ++ newline ++ codes "infeasible short 1" ++ newline ++ codes "end" ++ newline
-unfolding least_of fiber_of digits
-two_answers = refl
-
-no_phase : report_text (answers_of coins (record { phases = [] })) ≡ codes "report 1" ++ newline ++ codes "end" ++ newline
-no_phase = refl
 
 zero_column_line : IsEnding (bad_instance (Text 5 3 ZeroColumn)) BadInstance (codes "bad instance: line 5 column 3: zero column" ++ newline)
 unfolding digits
@@ -74,17 +54,17 @@ four_words : command_of (codes "check" ∷ codes "K" ∷ codes "L" ∷ codes "L"
 unfolding parts_of places_of
 four_words = refl
 
--- ---- the status Usage is that of words that are no command, or of what isn't built yet, and of no others
+-- ---- the status Usage is that of words that are no command, and of no others
 
 of_bytes : (told : Told) (P : List ℕ → Type 0) (G : Type 0) → ((bytes : List ℕ) → P bytes → G) → HasBytes told P → G
 of_bytes untold P G f h = f h.0 h.1
 of_bytes absent P G f h = absurd h
 of_bytes (holds bytes) P G f h = f bytes h
 
-no_usage_by_sessions : (read : Result Script Fault) (i : Problem) (told : List ℕ → Told) (old new : Option (List ℕ)) →
-    Ends (by_value bad_sessions (λ script. ends (answered i script)) read) told (Wrote Usage old new) → ⊥
-no_usage_by_sessions (Ok script) i told old new wrote = let no : Usage ≡ Done = wrote.1.0.0 in cc
-no_usage_by_sessions (Err fault) i told old new wrote = let no : Usage ≡ BadSessions = wrote.1.0.0 in cc
+no_usage_by_sessions : (read : Result Script Fault) (c : Case) (told : List ℕ → Told) (old new : Option (List ℕ)) →
+    Ends (by_value bad_sessions (λ script. ends (answered c script)) read) told (Wrote Usage old new) → ⊥
+no_usage_by_sessions (Ok script) c told old new wrote = let no : Usage ≡ Done = wrote.1.0.0 in cc
+no_usage_by_sessions (Err fault) c told old new wrote = let no : Usage ≡ BadSessions = wrote.1.0.0 in cc
 
 no_usage_of_grade : (found : Option ℕ) (i : Problem) (grade : ℕ) (old new : Option (List ℕ)) → Wrote Usage old new (ledger_or_full i grade found) → ⊥
 no_usage_of_grade None i grade old new wrote = let no : Usage ≡ Done = wrote.1.0.0 in cc
@@ -101,7 +81,7 @@ no_usage_of_ledger i bytes text (weighed l within is same verdict) = no_usage_of
 
 no_usage_by_work : (command : Command) (i : Problem) (told : List ℕ → Told) (old new : Option (List ℕ)) → Ends (work_plan command i) told (Wrote Usage old new) → ⊥
 no_usage_by_work (answer instance sessions walks levels moves) i told old new wrote =
-    of_bytes (told sessions) _ ⊥ (λ bytes. no_usage_by_sessions (session_file i.rows bytes) i told old new) wrote
+    of_bytes (told sessions) _ ⊥ (λ bytes. no_usage_by_sessions (session_file i.rows bytes) (case_of (record { limit = moves; walks = walks; levels = levels }) i) told old new) wrote
 no_usage_by_work (certify instance grade moves) i told old new wrote = no_usage_of_grade (full_grade_up_to i moves grade) i grade old new wrote
 no_usage_by_work (check instance ledger) i told old new wrote = of_bytes (told ledger) _ ⊥ (λ bytes w. no_usage_of_ledger i bytes w.0 w.1.0) wrote
 
@@ -110,16 +90,7 @@ no_usage : (read : Result Problem Fault) (command : Command) (told : List ℕ �
 no_usage (Ok i) command told old new wrote = no_usage_by_work command i told old new wrote
 no_usage (Err fault) command told old new wrote = let no : Usage ≡ BadInstance = wrote.1.0.0 in cc
 
-usage_unless : (unbuilt : Bool) (command : Command) (told : List ℕ → Told) (old new : Option (List ℕ)) →
-    Ends (plan_unless unbuilt command) told (Wrote Usage old new) → unbuilt ≡ true
-usage_unless true command told old new wrote = refl
-usage_unless false command told old new wrote =
+usage_only : (command : Option Command) (told : List ℕ → Told) (old new : Option (List ℕ)) → Ends (plan_of command) told (Wrote Usage old new) → command ≡ None
+usage_only None told old new wrote = refl
+usage_only (Some command) told old new wrote =
     absurd (of_bytes (told (instance_name command)) _ ⊥ (λ bytes. no_usage (instance_file bytes) command told old new) wrote)
-
-abbrev IsUsage : Option Command → Type 0
-IsUsage None = Unit {0}
-IsUsage (Some command) = is_unbuilt command ≡ true
-
-usage_only : (command : Option Command) (told : List ℕ → Told) (old new : Option (List ℕ)) → Ends (plan_of command) told (Wrote Usage old new) → IsUsage command
-usage_only None told old new wrote = tt
-usage_only (Some command) told old new wrote = usage_unless (is_unbuilt command) command told old new wrote

@@ -13,7 +13,7 @@ use Rattle.ct_checker.specs.Accepted.{IsAccepted}
 use Rattle.ct_checker.specs.Checking.{verdict_of}
 use Rattle.ct_run.specs.declared.status.Status.{Status}
 use Rattle.ct_run.specs.declared.status.Status.TheVariants.{Done, BadLedger, LedgerRefused}
-use Rattle.ct_run.specs.Report.{newline}
+use Rattle.ct_run.specs.Texts.{newline}
 
 abbrev pub reason_text : Reason → List ℕ
 reason_text Size = codes "size"

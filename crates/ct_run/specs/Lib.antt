@@ -1,10 +1,11 @@
-pub mod Report
+pub mod Texts
 pub mod Words
 pub mod Commands
 pub mod Status
 pub mod Checked
 pub mod Certificate
 pub mod Outcome
+pub mod Forms
 pub mod Plan
 pub mod Running
 pub mod Stopping

@@ -8,7 +8,11 @@ use Rattle.ct_input.specs.declared.script.Script.{Script}
 use Rattle.ct_input.specs.FaultText.{fault_text}
 use Rattle.ct_run.specs.declared.status.Status.{Status}
 use Rattle.ct_run.specs.declared.status.Status.TheVariants.{Done, Usage, BadInstance, BadSessions, ReadFault, WriteFault, Memory, Full}
-use Rattle.ct_run.specs.Report.{newline, report_text, answers_of}
+use Rattle.ct_report.specs.declared.reports.Report.{Report}
+use Rattle.ct_report.specs.ReportText.{report_text}
+use Rattle.ct_legal.specs.Cases.{Case}
+use Rattle.ct_legal.specs.Legal.{IsLegalAnswered}
+use Rattle.ct_run.specs.Texts.{newline}
 use Rattle.ct_run.specs.Certificate.{IsCertificate}
 use Rattle.ct_run.specs.Checked.{IsChecked}
 
@@ -17,17 +21,21 @@ pub data RunOutcome : Type 0 where
   usage : RunOutcome
   bad_instance : Fault → RunOutcome
   bad_sessions : Fault → RunOutcome
-  answered : Problem → Script → RunOutcome
+  answered : Case → Script → RunOutcome
   certified : Problem → ℕ → RunOutcome
   full : ℕ → RunOutcome
   checked : Problem → List ℕ → RunOutcome
+
+-- a text of a report that is legal where each ask is taken as a solve
+abbrev pub IsReportOf : Case → Script → List ℕ → Type 0
+IsReportOf c script text = (report : Report) × (IsLegalAnswered c script report × (text ≡ report_text report))
 
 -- the status and the text with which the outcome ends
 abbrev pub IsEnding : RunOutcome → Status → List ℕ → Type 0
 IsEnding usage status text = (status ≡ Usage) × (text ≡ codes "usage: ct COMMAND ARGUMENTS" ++ newline)
 IsEnding (bad_instance fault) status text = (status ≡ BadInstance) × (text ≡ codes "bad instance: " ++ fault_text fault ++ newline)
 IsEnding (bad_sessions fault) status text = (status ≡ BadSessions) × (text ≡ codes "bad sessions: " ++ fault_text fault ++ newline)
-IsEnding (answered i script) status text = (status ≡ Done) × (text ≡ report_text (answers_of i script))
+IsEnding (answered c script) status text = (status ≡ Done) × IsReportOf c script text
 IsEnding (certified i grade) status text = (status ≡ Done) × IsCertificate i grade text
 IsEnding (full grade) status text = (status ≡ Full) × (text ≡ codes "full " ++ decimal grade ++ newline)
 IsEnding (checked i bytes) status text = IsChecked i bytes status text

@@ -1,11 +1,12 @@
 -- What a command does: it asks for files by their names, one after another, and comes to an outcome.
-use Rattle.std.specs.Prelude.{ℕ, ◌||◌, Bool, true, false, nat_lt, List, Option, Some, None, Result, Ok, Err, map, string_bytes, String}
+use Rattle.std.specs.Prelude.{ℕ, List, Option, Some, None, Result, Ok, Err, map, string_bytes, String}
 use Rattle.std.specs.declared.alloc.Global.{Global}
 use Rattle.ct_input.specs.declared.fault.Fault.{Fault}
-use Rattle.ct_input.specs.Files.{instance_file, session_file}
+use Rattle.ct_run.specs.Forms.{instance_file, session_file}
 use Rattle.ct_instance.specs.Instance.{Problem}
 use Rattle.ct_instance.specs.Reach.{full_grade_up_to}
-use Rattle.ct_vectors.specs.declared.limits.TheConstants.{MOVE_LIMIT}
+use Rattle.ct_legal.specs.Cases.{Case, plain_case}
+use Rattle.ct_answer.specs.declared.options.Options.{Options}
 use Rattle.ct_run.specs.Words.{Command, answer, certify, check, command_of}
 use Rattle.ct_run.specs.Outcome.{RunOutcome, usage, bad_instance, bad_sessions, answered, certified, full, checked}
 
@@ -23,9 +24,13 @@ by_value refused go (Err fault) = ends (refused fault)
 abbrev pub reads : {A : Type 0} → List ℕ → (List ℕ → Result A Fault) → (Fault → RunOutcome) → (A → Plan) → Plan
 reads name value_of refused go = asks name (λ bytes. by_value refused go (value_of bytes))
 
--- answers the requests of a session file of an instance
-abbrev pub sessions_plan : List ℕ → Problem → Plan
-sessions_plan sessions i = reads sessions (session_file i.rows) bad_sessions (λ script. ends (answered i script))
+-- answers the requests of a session file
+abbrev pub sessions_plan : List ℕ → Case → Plan
+sessions_plan sessions c = reads sessions (session_file (c.instance).rows) bad_sessions (λ script. ends (answered c script))
+
+-- the case of an instance with the options of `answer`
+abbrev pub case_of : Options → Problem → Case
+case_of o i = plain_case i o.limit o.walks o.levels
 
 -- the ledger of a grade, or the full grade where that is at most the grade
 abbrev pub ledger_or_full : Problem → ℕ → Option ℕ → RunOutcome
@@ -41,31 +46,21 @@ check_plan ledger i = asks ledger (λ bytes. ends (checked i bytes))
 
 -- what a command does with its instance
 abbrev pub work_plan : Command → Problem → Plan
-work_plan (answer instance sessions walks levels moves) = sessions_plan sessions
-work_plan (certify instance grade moves) = certify_plan grade moves
-work_plan (check instance ledger) = check_plan ledger
+work_plan (answer instance sessions walks levels moves) i = sessions_plan sessions (case_of (record { limit = moves; walks = walks; levels = levels }) i)
+work_plan (certify instance grade moves) i = certify_plan grade moves i
+work_plan (check instance ledger) i = check_plan ledger i
 
 abbrev pub instance_name : Command → List ℕ
 instance_name (answer instance sessions walks levels moves) = instance
 instance_name (certify instance grade moves) = instance
 instance_name (check instance ledger) = instance
 
--- Answers are listed one by one, without walks, levels and a limit on moves: these options aren't built yet.
-abbrev pub is_unbuilt : Command → Bool
-is_unbuilt (answer instance sessions walks levels moves) = walks || levels || nat_lt moves MOVE_LIMIT
-is_unbuilt (certify instance grade moves) = false
-is_unbuilt (check instance ledger) = false
-
 abbrev pub command_plan : Command → Plan
 command_plan command = reads (instance_name command) instance_file bad_instance (work_plan command)
 
-abbrev pub plan_unless : Bool → Command → Plan
-plan_unless true command = ends usage
-plan_unless false command = command_plan command
-
 abbrev pub plan_of : Option Command → Plan
 plan_of None = ends usage
-plan_of (Some command) = plan_unless (is_unbuilt command) command
+plan_of (Some command) = command_plan command
 
 -- the plan of the words after the program's name
 abbrev pub plan_in : List (String Global) → Plan

@@ -1,18 +1,22 @@
 //! How a run ends before it writes.
 ghost use Rattle.std.specs.Prelude.{◌≡◌, IfOk};
+ghost use Rattle.std.specs.Arc.{arc_value};
+ghost use Rattle.ct_run.specs.Words.{IsLimit};
 ghost use Rattle.ct_run.specs.Outcome.{usage, bad_instance, bad_sessions, answered, full};
+ghost use Rattle.ct_run.specs.Plan.{case_of};
 ghost use Rattle.ct_run.specs.Checked.{reason_text, accepted_text, refused_text, too_long_text, bad_line_text};
 ghost use Rattle.ct_run.specs.Stopping.{Fits};
 ghost use Rattle.ct_input.specs.Script.{IsScript};
 
-use crate::report::push_report;
 use crate::status::Status;
+use ct_answer::{Options, answer};
 use ct_checker::Reason;
 use ct_input::{Fault, Script, push_fault};
 use ct_instance::Instance;
 use ct_point::Seq;
 use ct_text::push_natural;
 use std::alloc::{AllocError, Global};
+use std::sync::Arc;
 
 /// A status, and the text to be written with it.
 #[derive(Debug, Drop)]
@@ -54,15 +58,20 @@ pub fn bad_sessions_ending(alloc: Global, fault: &Fault) -> Result<Ending, Alloc
     })
 }
 
-pub fn report_ending(alloc: Global, inst: &Instance, script: &Script) -> Result<Ending, AllocError>
-    requires { IsScript inst.now.rows script.now }
-    ensures { IfOk result (λ ending. Fits (answered inst.now script.now) ending) }
+pub fn report_ending(
+    alloc: Global,
+    inst: &Arc<Instance>,
+    script: &Script,
+    options: Options,
+) -> Result<Ending, AllocError>
+    requires limit { IsLimit options.limit }
+    requires script { IsScript (arc_value inst.now).rows script.now }
+    ensures { IfOk result (λ ending. Fits (answered (case_of options (arc_value inst.now)) script.now) ending) }
 {
-    let mut text = Vec::new(alloc);
-    push_report(alloc, &mut text, inst, script)?;
+    let report = answer(alloc, Arc::try_clone(inst)?, script, options)?;
     Ok(Ending {
         status: Status::Done,
-        text: Seq::from_vec(text),
+        text: Seq::from_vec(report.print(alloc)?),
     })
 }
 

@@ -14,7 +14,6 @@ pub mod laws;
 #[cfg(test)]
 mod ledger_tests;
 mod reading;
-mod report;
 mod run;
 mod status;
 mod stop;

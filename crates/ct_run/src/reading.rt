@@ -1,10 +1,17 @@
-//! Files, fetched by their names.
-ghost use Rattle.std.specs.Prelude.{◌≡◌, ◌+◌, take, OnErr, IfOk, IfErr};
+//! Files, fetched by their names, and read in either form.
+ghost use Rattle.std.specs.Prelude.{◌≡◌, ◌≤◌, ◌+◌, take, OnErr, IfOk, IfErr};
+ghost use Rattle.ct_vectors.specs.declared.limits.TheConstants.{ROW_LIMIT};
+ghost use Rattle.ct_input.specs.Script.{IsScript};
+ghost use Rattle.ct_input.specs.Sheet.{Gives};
 ghost use Rattle.ct_outside.specs.Shelf.{KeepsShelf};
+ghost use Rattle.ct_run.specs.Forms.{instance_file, session_file};
 ghost use Rattle.ct_run.specs.Running.{HasBytes};
 ghost use Rattle.ct_run.specs.Stopping.{StoppedAt};
 
 use crate::stop::Stop;
+use ct_input::{InputStop, Script, read_instance, read_sessions};
+use ct_instance::Instance;
+use ct_json::{is_json, read_instance_json, read_sessions_json};
 use ct_outside::{FetchFault, Shelf};
 use std::alloc::Global;
 
@@ -24,5 +31,31 @@ pub fn file_at<S: Shelf>(
         Ok(()) | Err(FetchFault::TooLong) => Ok(bytes),
         Err(FetchFault::Failed) => Err(Stop::ReadFault),
         Err(FetchFault::Memory) => Err(Stop::Memory),
+    }
+}
+
+/// The instance of a file, in JSON or as text.
+#[tactic(auto, unfolding(crate::specs::Forms::instance_file))]
+pub fn instance_in(alloc: Global, bytes: &[u8]) -> Result<Instance, InputStop>
+    ensures { Gives (λ instance. instance) result (instance_file bytes.now) }
+{
+    if is_json(bytes) {
+        read_instance_json(alloc, bytes)
+    } else {
+        read_instance(alloc, bytes)
+    }
+}
+
+/// The script of a session file, in JSON or as text, for an instance with so many rows.
+#[tactic(auto, unfolding(crate::specs::Forms::session_file))]
+pub fn script_in(alloc: Global, rows: usize, bytes: &[u8]) -> Result<Script, InputStop>
+    requires { rows ≤ ROW_LIMIT }
+    ensures gives { Gives (λ script. script) result (session_file rows bytes.now) }
+    ensures script { IfOk result (IsScript rows) }
+{
+    if is_json(bytes) {
+        read_sessions_json(alloc, rows as u32, bytes)
+    } else {
+        read_sessions(alloc, rows, bytes)
     }
 }

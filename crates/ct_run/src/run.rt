@@ -3,10 +3,10 @@ ghost use Rattle.std.specs.Prelude.{◌≡◌, ◌≤◌, ⊤, false, ℕ, List,
 ghost use Rattle.std.specs.Arc.{arc_value};
 ghost use Rattle.ct_outside.specs.Faults.{Rose};
 ghost use Rattle.ct_outside.specs.Shelf.{KeepsShelf};
-ghost use Rattle.ct_run.specs.Words.{IsCommandWithin};
+ghost use Rattle.ct_run.specs.Words.{IsLimit, IsCommandWithin};
 ghost use Rattle.ct_run.specs.Commands.{seen};
 ghost use Rattle.ct_run.specs.Outcome.{Wrote, WroteFront, is_stop, IsUnlessStopped, IsUnlessMemory};
-ghost use Rattle.ct_run.specs.Plan.{sessions_plan, check_plan, work_plan, command_plan, plan_of, plan_in};
+ghost use Rattle.ct_run.specs.Plan.{case_of, sessions_plan, check_plan, work_plan, command_plan, plan_of, plan_in};
 ghost use Rattle.ct_run.specs.Running.{Ends, WouldEnd, ComesTo, Runs, HasReadFault, NoReadFault};
 ghost use Rattle.ct_run.specs.Stopping.{Ran};
 
@@ -15,12 +15,13 @@ use crate::checking::check_ending;
 use crate::ending::{
     Ending, bad_instance_ending, bad_sessions_ending, report_ending, usage_ending,
 };
-use crate::reading::file_at;
+use crate::reading::{file_at, instance_in, script_in};
 use crate::status::Status;
 use crate::stop::Stop;
-use crate::words::{Command, command_in, instance_of, is_unbuilt};
+use crate::words::{Command, command_in, instance_of};
+use ct_answer::Options;
+use ct_input::InputStop;
 use ct_input::limits::{INSTANCE_FILE_LIMIT, LEDGER_FILE_LIMIT, SESSION_FILE_LIMIT};
-use ct_input::{InputStop, read_instance, read_sessions};
 use ct_instance::Instance;
 use ct_outside::{Shelf, Sink, write_whole};
 use std::alloc::{AllocError, Global};
@@ -29,17 +30,19 @@ use std::sync::Arc;
 // The ending of `answer` on the session file of an instance.
 fn sessions_ending<S: Shelf>(
     alloc: Global,
-    inst: &Instance,
+    inst: &Arc<Instance>,
     sessions: &str,
+    options: Options,
     shelf: &mut S,
 ) -> Result<Ending, Stop>
-    ensures ran { Ran (sessions_plan sessions.now inst.now) (S.told shelf.old) (S.faults shelf.old) (S.faults shelf.new) result }
+    requires { IsLimit options.limit }
+    ensures ran { Ran (sessions_plan sessions.now (case_of options (arc_value inst.now))) (S.told shelf.old) (S.faults shelf.old) (S.faults shelf.new) result }
     ensures kept { S.told shelf.new ≡ S.told shelf.old }
     ensures later { (name : List ℕ) → S.faults shelf.old name ≤ S.faults shelf.new name }
 {
     let bytes = file_at(alloc, sessions, SESSION_FILE_LIMIT as u64, shelf)?;
-    match read_sessions(alloc, inst.rows(), &bytes) {
-        Ok(script) => Ok(report_ending(alloc, inst, &script)?),
+    match script_in(alloc, inst.rows(), &bytes) {
+        Ok(script) => Ok(report_ending(alloc, inst, &script, options)?),
         Err(InputStop::Fault(fault)) => Ok(bad_sessions_ending(alloc, &fault)?),
         Err(InputStop::Memory) => Err(Stop::Memory),
     }
@@ -74,7 +77,20 @@ fn work_ending<S: Shelf>(
     ensures later { (name : List ℕ) → S.faults shelf.old name ≤ S.faults shelf.new name }
 {
     match command {
-        Command::Answer { sessions, .. } => sessions_ending(alloc, &inst, sessions, shelf),
+        Command::Answer {
+            sessions,
+            walks,
+            levels,
+            moves,
+            ..
+        } => {
+            let options = Options {
+                limit: moves,
+                walks,
+                levels,
+            };
+            sessions_ending(alloc, &inst, sessions, options, shelf)
+        }
         Command::Certify { grade, moves, .. } => Ok(certify_ending(alloc, inst, grade, moves)?),
         Command::Check { ledger, .. } => ledger_ending(alloc, &inst, ledger, shelf),
     }
@@ -106,7 +122,7 @@ fn command_ending<S: Shelf>(
         INSTANCE_FILE_LIMIT as u64,
         shelf,
     )?;
-    match read_instance(alloc, &bytes) {
+    match instance_in(alloc, &bytes) {
         Ok(read) => {
             let inst = shared(alloc, read)?;
             work_ending(alloc, command, inst, shelf)
@@ -128,12 +144,7 @@ fn ending_by<S: Shelf>(
     ensures later { (name : List ℕ) → S.faults shelf.old name ≤ S.faults shelf.new name }
 {
     match command {
-        Some(command) => {
-            if is_unbuilt(&command) {
-                return Ok(usage_ending(alloc)?);
-            }
-            command_ending(alloc, command, shelf)
-        }
+        Some(command) => command_ending(alloc, command, shelf),
         None => Ok(usage_ending(alloc)?),
     }
 }
@@ -151,12 +162,13 @@ fn ending_of<S: Shelf>(alloc: Global, words: &[String], shelf: &mut S) -> Result
 }
 
 /// Runs the command that the words after the program's name are, and writes its text or the line of its refusal:
-/// `answer INSTANCE SESSIONS` answers each request of the session file, an ask as a solve; `certify INSTANCE GRADE` makes
-/// the ledger of the test list of the grade, and `check INSTANCE LEDGER` checks one.
+/// `answer INSTANCE SESSIONS` answers each request of the session file, an ask as a solve; `certify INSTANCE GRADE` prints
+/// the ledger of the test set of a grade, and `check INSTANCE LEDGER` checks a ledger. `--walks` shows the walk of each
+/// answer, `--levels` the level of each phase, and `--moves N` keeps test lists to N moves.
 ///
-/// It always returns. The files are held whole, and so is the text before the first write. The time of `answer` is that of
-/// listing the fiber of each right-hand side, that of `certify` a completion and two walks for each job of its list, that
-/// of `check` a look at each pair of moves and each step of the ledger.
+/// It always returns. The files are held whole, and so is the text before the first write. The time is that of one
+/// completion up to the greatest grade that is asked for, and of a walk for each request or of a pair of walks for each
+/// entry of a ledger.
 pub fn run_plain<S: Shelf, O: Sink>(
     alloc: Global,
     words: &[String],

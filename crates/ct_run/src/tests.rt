@@ -55,6 +55,32 @@ fn ends(
     Ok(status.number() == number && out.held() == text.as_bytes())
 }
 
+// Each file is in JSON or text by itself.
+#[test]
+fn files_in_json(rt: HostRuntime) -> Result<(), Fail> {
+    let instance = "{\"instance\":1,\"matrix\":[[3,5]],\"cost\":[2,3]}";
+    let sessions =
+        "{\"sessions\":1,\"phases\":[{\"target\":0,\"sessions\":[[{\"solve\":[15]},{\"ask\":[7]}]]}]}";
+    let report = "report 1\nphase 1\nsession 1\noptimum 9 at 0 3\ninfeasible short 1\nend\n";
+    for (instance, sessions, number, text) in [
+        (instance, sessions, 0, report),
+        (K, sessions, 0, report),
+        (instance, ONE, 0, REPORT),
+        (
+            K,
+            "{\"sessions\":1,\"phases\":{}}",
+            4,
+            "bad sessions: json at /phases: kind\n",
+        ),
+    ] {
+        assert!(rt;
+            ends(rt.alloc(), instance, sessions, number, text)?,
+            "{text}"
+        );
+    }
+    Ok(())
+}
+
 // Each run: the two texts, the number and what is written.
 #[test]
 fn answers_and_faults_of_texts(rt: HostRuntime) -> Result<(), Fail> {
@@ -127,7 +153,7 @@ fn answers_and_faults_of_texts(rt: HostRuntime) -> Result<(), Fail> {
             "{\"instance\":1}",
             ONE,
             3,
-            "bad instance: line 1 column 1: word\n",
+            "bad instance: json at /matrix: missing\n",
         ),
         ("", ONE, 3, "bad instance: line 1 column 1: end\n"),
         (
@@ -160,7 +186,7 @@ fn answers_and_faults_of_texts(rt: HostRuntime) -> Result<(), Fail> {
     Ok(())
 }
 
-// Words that are no command, and options that aren't built yet.
+// Words that are no command.
 #[test]
 fn usage_of_other_words(rt: HostRuntime) -> Result<(), Fail> {
     let alloc = rt.alloc();
@@ -175,8 +201,8 @@ fn usage_of_other_words(rt: HostRuntime) -> Result<(), Fail> {
         &["answer", "-K", "S"][..],
         &["answer", "K", "S", "-w"][..],
         &["answer", "K", "--"][..],
-        &["answer", "K", "S", "--walks"][..],
-        &["answer", "--moves=2", "--", "K", "S"][..],
+        &["answer", "K", "S", "--walks", "--walks"][..],
+        &["answer", "K", "S", "--levels=1"][..],
         &["answer", "K", "S", "--moves", "02"][..],
         &["answer", "K", "S", "--moves", "4097"][..],
         &["check", "K"][..],
@@ -186,6 +212,42 @@ fn usage_of_other_words(rt: HostRuntime) -> Result<(), Fail> {
         let status = run_plain(alloc, &words_of(alloc, words)?, &mut shelf, &mut out);
         assert!(rt; status == Status::Usage);
         assert!(rt; out.held() == USAGE.as_bytes());
+    }
+    Ok(())
+}
+
+// Each run: the words, the session text, and the report between its first line and `end`.
+#[test]
+fn options_of_an_answer(rt: HostRuntime) -> Result<(), Fail> {
+    let alloc = rt.alloc();
+    for (row, (words, sessions, told)) in [
+        (
+            &["answer", "--walks", "K", "S"][..],
+            "sessions 1 phase 0 session solve 15 ask 7 end",
+            "phase 1\nsession 1\noptimum 9 at 0 3\nwalk 1*5 5*1\ninfeasible short 1\nwalk 1*2\n",
+        ),
+        (
+            &["answer", "K", "S", "--levels"][..],
+            "sessions 1 phase 0 session solve 8 ask 9 ask 10 end",
+            "phase 1\nsession 1\noptimum 5 at 1 1\noptimum 6 at 3 0\noptimum 6 at 0 2\nlevel 10\n",
+        ),
+        (
+            &["answer", "--moves=2", "--levels", "--", "K", "S"][..],
+            "sessions 1 phase 0 session solve 5 solve 6 end",
+            "phase 1\nsession 1\noptimum 3 at 0 1\nfull 6\nlevel 5\n",
+        ),
+    ]
+    .into_iter()
+    .enumerate()
+    {
+        let mut shelf = MemShelf::new(alloc);
+        shelf.add(alloc, "K", K.as_bytes())?;
+        shelf.add(alloc, "S", sessions.as_bytes())?;
+        let mut out = MemSink::new(alloc, 1000, 1_048_576)?;
+        let status = run_plain(alloc, &words_of(alloc, words)?, &mut shelf, &mut out);
+        let report = format!(in alloc; "report 1\n{told}end\n")?;
+        assert!(rt; status == Status::Done, "row {row}");
+        assert!(rt; out.held() == report.as_bytes(), "row {row}");
     }
     Ok(())
 }

@@ -4,7 +4,7 @@ ghost use Rattle.ct_words.specs.Role.{given_seen};
 ghost use Rattle.ct_words.specs.Said.{place_seen, seen as said_seen};
 ghost use Rattle.ct_run.specs.Words.{IsLimit, HasNumbersWithin, IsCommandWithin, limit_in, two_texts as two_texts_of, text_and_number as text_and_number_of, as_command, command_of};
 ghost use Rattle.ct_run.specs.Commands.{seen};
-ghost use Rattle.ct_run.specs.Plan.{instance_name, is_unbuilt as is_unbuilt_of};
+ghost use Rattle.ct_run.specs.Plan.{instance_name};
 
 use ct_vectors::limits::MOVE_LIMIT;
 use ct_words::{CommandName, Place, Said, said_in};
@@ -118,20 +118,5 @@ pub fn instance_of<'a>(command: &Command<'a>) -> &'a str
         Command::Answer { instance, .. } => instance,
         Command::Certify { instance, .. } => instance,
         Command::Check { instance, .. } => instance,
-    }
-}
-
-/// Whether the command has an option that isn't built yet.
-pub fn is_unbuilt(command: &Command<'_>) -> bool
-    ensures { result ≡ is_unbuilt_of (seen command.now) }
-{
-    match command {
-        Command::Answer {
-            walks,
-            levels,
-            moves,
-            ..
-        } => *walks || *levels || (*moves as usize) < MOVE_LIMIT,
-        Command::Certify { .. } | Command::Check { .. } => false,
     }
 }

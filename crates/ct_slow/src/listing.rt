@@ -21,6 +21,7 @@ pub fn least_by_listing(alloc: Global, inst: &Instance, b: &[u64]) -> Result<Poi
     requires limit { All (λ x. x ≤ RIGHT_LIMIT) b.now }
     ensures { IfOk result (λ p. p ≡ least_of inst.now b.now) }
 {
+    // Called for what it ensures: the instance is within the limits.
     let _rows = inst.rows();
     let mut best = inst.start(alloc, b)?;
     let mut point = inst.start(alloc, b)?;

@@ -1,5 +1,5 @@
 -- The order in each coordinate, the least common multiple, and disjoint points.
-use Rattle.std.proofs.Common.{ℕ, ◌+◌, ◌*◌, ◌≤◌, ◌≡◌, ◌⊎◌, inl, inr, ⊎_elim, max, Bool, true, false, nat_eq, nat_le, ◌||◌, Decides, List, [], ◌∷◌, length, get_or, refl, sym, ◌∙◌, subst, arith, zero, suc, true≢false, leb-true, le-leb, eqb-true, eq-eqb, mul-le-mul_right, mul-le-mul_left}
+use Rattle.std.proofs.Common.{ℕ, ◌*◌, ◌≤◌, ◌≡◌, ◌⊎◌, inl, inr, ⊎_elim, max, Bool, true, false, nat_eq, nat_le, ◌||◌, Decides, List, [], ◌∷◌, length, get_or, refl, sym, ◌∙◌, subst, arith, zero, suc, true≢false, leb-true, le-leb, eqb-true, eq-eqb, mul-le-mul_right, mul-le-mul_left}
 use Rattle.std.proofs.lemmas.Bool.{and_parts, and_from, or_cases, or_left, or_right}
 use Rattle.ct_vectors.specs.Vectors.{total, add, subtract, scale, lcm, zeros, Divides, divides, Disjoint, disjoint}
 use Rattle.ct_vectors.proofs.Sums.{cons_same, add-nil, total-scale}
@@ -20,9 +20,6 @@ test_from_Divides [] p d = refl
 test_from_Divides (x ∷ h) [] d = and_from (nat_eq x 0) (divides h []) (eq-eqb x 0 d.0) (test_from_Divides h [] d.1)
 test_from_Divides (x ∷ h) (y ∷ p) d = and_from (nat_le x y) (divides h p) (le-leb x y d.0) (test_from_Divides h p d.1)
 
-pub Decides-divides : (h p : List ℕ) → Decides (divides h p) (Divides h p)
-Decides-divides h p = (Divides-from_test h p, test_from_Divides h p)
-
 pub dec_divides : (h p : List ℕ) → Divides h p ⊎ (Divides h p → ⊥)
 dec_divides h p = go (divides h p) refl
   where
@@ -42,12 +39,6 @@ Divides-trans (x ∷ h) [] [] d e = d
 Divides-trans (x ∷ h) [] (z ∷ q) d e = (omega arith, Divides-trans h [] q d.1 tt)
 Divides-trans (x ∷ h) (y ∷ p) [] d e = (omega arith, Divides-trans h p [] d.1 e.1)
 Divides-trans (x ∷ h) (y ∷ p) (z ∷ q) d e = (omega arith, Divides-trans h p q d.1 e.1)
-
-pub Divides-antisymm : (p q : List ℕ) → length p ≡ length q → Divides p q → Divides q p → p ≡ q
-Divides-antisymm [] [] l d e = refl
-Divides-antisymm [] (y ∷ q) l d e = absurd (omega arith)
-Divides-antisymm (x ∷ p) [] l d e = absurd (omega arith)
-Divides-antisymm (x ∷ p) (y ∷ q) l d e = cons_same (omega arith) (Divides-antisymm p q (omega arith) d.1 e.1)
 
 pub Divides-add : (c h : List ℕ) → Divides h (add c h)
 Divides-add [] h = Divides-refl h
@@ -70,12 +61,6 @@ pub total-divides : (h p : List ℕ) → Divides h p → total h ≤ total p
 total-divides [] p d = omega arith
 total-divides (x ∷ h) [] d = omega (arith, total-divides h [] d.1)
 total-divides (x ∷ h) (y ∷ p) d = omega (arith, total-divides h p d.1)
-
-pub total-subtract : (p h : List ℕ) → Divides h p → total (subtract p h) + total h ≡ total p
-total-subtract [] [] d = omega arith
-total-subtract [] (y ∷ h) d = omega (arith, total-divides (y ∷ h) [] d)
-total-subtract (x ∷ p) [] d = omega arith
-total-subtract (x ∷ p) (y ∷ h) d = omega (arith, total-subtract p h d.1)
 
 pub subtract-divides : (p h : List ℕ) → Divides (subtract p h) p
 subtract-divides [] h = tt
@@ -170,19 +155,8 @@ dec_disjoint p q = go (disjoint p q) refl
     go true e = inl (Disjoint-from_test p q e)
     go false e = inr (λ d. true≢false (sym (test_from_Disjoint p q d) ∙ e))
 
-pub Disjoint-symm : (p q : List ℕ) → Disjoint p q → Disjoint q p
-Disjoint-symm [] [] d = tt
-Disjoint-symm [] (y ∷ q) d = tt
-Disjoint-symm (x ∷ p) [] d = tt
-Disjoint-symm (x ∷ p) (y ∷ q) d = (⊎_elim inr inl d.0, Disjoint-symm p q d.1)
-
 -- the least common multiple of disjoint points is their sum
 pub lcm-disjoint : (p q : List ℕ) → Disjoint p q → lcm p q ≡ add p q
 lcm-disjoint [] q d = refl
 lcm-disjoint (x ∷ p) [] d = refl
 lcm-disjoint (x ∷ p) (y ∷ q) d = cons_same (⊎_elim (λ z. omega arith) (λ z. omega arith) d.0) (lcm-disjoint p q d.1)
-
--- a point that isn't zero shares a variable with itself
-pub zeros_from_disjoint : (p : List ℕ) → Disjoint p p → total p ≡ 0
-zeros_from_disjoint [] d = refl
-zeros_from_disjoint (x ∷ p) d = ⊎_elim (λ z. omega (arith, zeros_from_disjoint p d.1)) (λ z. omega (arith, zeros_from_disjoint p d.1)) d.0

@@ -2,7 +2,7 @@
 use Rattle.std.proofs.Common.{ℕ, ◌+◌, ◌≤◌, ◌≡◌, List, [], ◌∷◌, ◌++◌, length, take, drop, Contains, refl, sym, subst, ap, ◌∙◌, ⊎_elim, arith, zero, suc}
 use Rattle.std.proofs.lemmas.List.Elements.{Contains-append_left, Contains-push, Contains-push_cases}
 use Rattle.std.proofs.lemmas.Bool.{cases_lt}
-use Rattle.ct_vectors.specs.Vectors.{add, scale, zeros, up_to}
+use Rattle.ct_vectors.specs.Vectors.{add, zeros, up_to}
 use Rattle.ct_vectors.proofs.Sums.{cons_same, add-nil}
 
 pub add-append : (p q r s : List ℕ) → length p ≡ length r → add (p ++ q) (r ++ s) ≡ add p r ++ add q s
@@ -10,10 +10,6 @@ add-append [] q [] s e = refl
 add-append [] q (y ∷ r) s e = absurd (omega arith)
 add-append (x ∷ p) q [] s e = absurd (omega arith)
 add-append (x ∷ p) q (y ∷ r) s e = cons_same refl (add-append p q r s (omega arith))
-
-pub scale-append : (t : ℕ) (p q : List ℕ) → scale t (p ++ q) ≡ scale t p ++ scale t q
-scale-append t [] q = refl
-scale-append t (x ∷ p) q = cons_same refl (scale-append t p q)
 
 pub drop-add : (n : ℕ) (p q : List ℕ) → drop n (add p q) ≡ add (drop n p) (drop n q)
 drop-add zero p q = refl
@@ -26,10 +22,6 @@ take-add zero p q = refl
 take-add (suc n) [] q = refl
 take-add (suc n) (x ∷ p) [] = refl
 take-add (suc n) (x ∷ p) (y ∷ q) = cons_same refl (take-add n p q)
-
-pub drop-zeros_append : (n : ℕ) (p : List ℕ) → drop n (zeros n ++ p) ≡ p
-drop-zeros_append zero p = refl
-drop-zeros_append (suc n) p = drop-zeros_append n p
 
 pub zeros-append : (m n : ℕ) → zeros m ++ zeros n ≡ zeros (m + n)
 zeros-append zero n = ap zeros (omega arith)

@@ -1,7 +1,6 @@
 -- Laws of sum, difference and multiple. A law asks for equal lengths only where a coordinate could get lost.
-use Rattle.std.proofs.Common.{ℕ, ◌+◌, ◌*◌, ◌≤◌, ◌<◌, ◌≡◌, max, All, List, [], ◌∷◌, ◌++◌, length, sum, refl, sym, ap, ap₂, ◌∙◌, arith, zero, suc}
+use Rattle.std.proofs.Common.{ℕ, ◌+◌, ◌*◌, ◌≤◌, ◌<◌, ◌≡◌, max, All, List, [], ◌∷◌, length, refl, sym, ap, ap₂, ◌∙◌, arith, zero, suc}
 use Rattle.std.proofs.lemmas.List.Elements.{All-tail}
-use Rattle.std.proofs.lemmas.List.Sums.{sum_by-cons}
 use Rattle.ct_vectors.specs.Vectors.{total, add, subtract, scale, zeros, unit}
 
 pub cons_same : {x y : ℕ} {p q : List ℕ} → x ≡ y → p ≡ q → x ∷ p ≡ y ∷ q
@@ -61,9 +60,6 @@ add_assoc (x ∷ p) (y ∷ q) (z ∷ r) = cons_same (omega arith) (add_assoc p q
 pub add_right_comm : (p q r : List ℕ) → add (add p q) r ≡ add (add p r) q
 add_right_comm p q r = add_assoc p q r ∙ ap (add p) (add_comm q r) ∙ sym (add_assoc p r q)
 
-pub add_left_comm : (p q r : List ℕ) → add p (add q r) ≡ add q (add p r)
-add_left_comm p q r = sym (add_assoc p q r) ∙ ap (λ s. add s r) (add_comm p q) ∙ add_assoc q p r
-
 -- (p + q) + (r + s) = (p + r) + (q + s)
 pub add_cross : (p q r s : List ℕ) → add (add p q) (add r s) ≡ add (add p r) (add q s)
 add_cross p q r s = sym (add_assoc (add p q) r s) ∙ ap (λ u. add u s) (add_right_comm p q r) ∙ add_assoc (add p r) q s
@@ -77,9 +73,6 @@ add_right_cancel (x ∷ p) (y ∷ q) (z ∷ h) e f =
     let heads : x + z ≡ y + z = cons_head f in
     cons_same (omega arith) (add_right_cancel p q h (omega arith) (cons_tail f))
 
-pub add_left_cancel : (h p q : List ℕ) → length p ≡ length q → add h p ≡ add h q → p ≡ q
-add_left_cancel h p q e f = add_right_cancel p q h e (add_comm p h ∙ f ∙ add_comm h q)
-
 pub add-zeros : (p : List ℕ) (n : ℕ) → n ≤ length p → add p (zeros n) ≡ p
 add-zeros [] zero h = refl
 add-zeros [] (suc n) h = absurd (omega arith)
@@ -89,9 +82,6 @@ add-zeros (x ∷ p) (suc n) h = cons_same (omega arith) (add-zeros p n (omega ar
 pub zeros-add : (n : ℕ) (p : List ℕ) → n ≤ length p → add (zeros n) p ≡ p
 zeros-add n p h = add_comm (zeros n) p ∙ add-zeros p n h
 
-pub zeros-add_zeros : (n : ℕ) → add (zeros n) (zeros n) ≡ zeros n
-zeros-add_zeros n = add-zeros (zeros n) n (omega (arith, length-zeros n))
-
 -- the difference
 
 pub subtract-add : (p h : List ℕ) → length h ≤ length p → subtract (add p h) h ≡ p
@@ -99,10 +89,6 @@ subtract-add [] [] l = refl
 subtract-add [] (y ∷ h) l = absurd (omega arith)
 subtract-add (x ∷ p) [] l = refl
 subtract-add (x ∷ p) (y ∷ h) l = cons_same (omega arith) (subtract-add p h (omega arith))
-
-pub subtract-nil : (p : List ℕ) → subtract p [] ≡ p
-subtract-nil [] = refl
-subtract-nil (x ∷ p) = refl
 
 pub subtract-zeros : (p : List ℕ) (n : ℕ) → subtract p (zeros n) ≡ p
 subtract-zeros [] n = refl
@@ -136,10 +122,6 @@ pub scale-zero : (p : List ℕ) → scale 0 p ≡ zeros (length p)
 scale-zero [] = refl
 scale-zero (x ∷ p) = cons_same (omega arith) (scale-zero p)
 
-pub scale-zeros : (t n : ℕ) → scale t (zeros n) ≡ zeros n
-scale-zeros t zero = refl
-scale-zeros t (suc n) = cons_same (omega arith) (scale-zeros t n)
-
 -- the total
 
 pub total-add : (p q : List ℕ) → total (add p q) ≡ total p + total q
@@ -160,10 +142,6 @@ total-unit zero j h = absurd (omega arith)
 total-unit (suc n) zero h = omega (arith, total-zeros n)
 total-unit (suc n) (suc j) h = omega (arith, total-unit n j (omega arith))
 
-pub total-append : (p q : List ℕ) → total (p ++ q) ≡ total p + total q
-total-append [] q = omega arith
-total-append (x ∷ p) q = omega (arith, total-append p q)
-
 pub zeros_from_total : (p : List ℕ) → total p ≡ 0 → p ≡ zeros (length p)
 zeros_from_total [] h = refl
 zeros_from_total (x ∷ p) h = cons_same (omega arith) (zeros_from_total p (omega arith))
@@ -178,8 +156,3 @@ total-limit k (x ∷ p) h =
   where
     limit_more : (x t n k : ℕ) → x ≤ k → t ≤ n * k → x + t ≤ suc n * k
     limit_more x t n k h l = omega arith
-
--- std's word for the total
-pub total_is_sum : (p : List ℕ) → total p ≡ sum p
-total_is_sum [] = refl
-total_is_sum (x ∷ p) = ap (λ t. x + t) (total_is_sum p) ∙ sym (sum_by-cons (λ y. y) x p)

@@ -6,6 +6,9 @@ pub const ROW_LIMIT: usize = 16;
 /// The greatest number of columns of an instance.
 pub const COLUMN_LIMIT: usize = 64;
 
+/// The greatest width of a point: a coordinate a column and an artificial one a row.
+pub const WIDTH_LIMIT: usize = COLUMN_LIMIT + ROW_LIMIT;
+
 /// The greatest number of rows of costs.
 pub const COST_ROW_LIMIT: usize = 8;
 

@@ -23,6 +23,7 @@ pub fn check(version: &Version, b: &[u64]) -> Result<(), NotYet>
     requires limit { All (λ x. x ≤ RIGHT_LIMIT) b.now }
     ensures { MatchResult result (λ _. Covers (level_of version.now.instance version.now.number) (total b.now)) (λ e. IsNotYet version.now b.now e.finished) }
 {
+    // Called for what it ensures: there is such a version.
     let _number = version.number();
     match version.finished() {
         Finished::All => Ok(()),

@@ -17,6 +17,7 @@ pub fn kind_at(inst: &Instance, p: &Point) -> AnswerKind
     requires limit { All (λ x. x ≤ GRADE_LIMIT) p.now }
     ensures { result ≡ kind_of (outcome_of inst.now p.now) }
 {
+    // Called for what it ensures: the instance is within the limits.
     let _rows = inst.rows();
     let short = art_total(inst.costs(), p.as_slice());
     if short > 0 {

@@ -53,6 +53,7 @@ impl Version {
         requires level { level_seen finished ≡ level_of moves.instance number }
         ensures { result ≡ record { instance = moves.instance; number = number } }
     {
+        // Called for what it ensures: these are moves of an instance within the limits.
         let _inst = moves.instance();
         Version {
             moves,

@@ -30,18 +30,6 @@ first_dividing_here (m ∷ ms) p (suc k) d l n t =
     let e : suc (k + 1) ≡ suc k + 1 = omega arith in
     ap₂ (λ (b : Bool) (o : Option ℕ). cond b (Some 1) (option_map suc o)) r.0 (first_dividing_here ms p k d (omega arith) r.1 t) ∙ ap Some e
 
--- none up to the index k divides
-pub normal_more : (ms : List Binomial) (p : List ℕ) (k : ℕ) (d : Binomial) → k < length ms → IsNormal (take k ms) p → divides (get_or ms k d).head p ≡ false →
-    IsNormal (take (k + 1) ms) p
-normal_more ms p k d l n f = subst (λ (j : ℕ). IsNormal (take j ms) p) (sym (add-one k)) (go ms k l n f)
-  where
-    go : (ms : List Binomial) (k : ℕ) → k < length ms → IsNormal (take k ms) p → divides (get_or ms k d).head p ≡ false → IsNormal (take (suc k) ms) p
-    go [] k l n f = absurd (omega arith)
-    go (m ∷ ms) zero l n f = ap (λ (b : Bool). cond b (Some 1) None) f
-    go (m ∷ ms) (suc k) l n f =
-        let r = normal_tail m (take k ms) p n in
-        ap₂ (λ (b : Bool) (o : Option ℕ). cond b (Some 1) (option_map suc o)) r.0 (go ms k (omega arith) r.1 f)
-
 -- ---- the walk step by step
 
 -- a step lowers the rank

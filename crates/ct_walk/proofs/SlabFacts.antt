@@ -10,6 +10,7 @@ use Rattle.std.proofs.lemmas.List.Elements.{All-push}
 use Rattle.std.proofs.lemmas.Bool.{cases_lt}
 use Rattle.std.proofs.lemmas.List.Quantifiers.{position-Some}
 use Rattle.ct_vectors.specs.Vectors.{divides}
+use Rattle.ct_vectors.specs.declared.limits.TheConstants.{MOVE_LIMIT}
 use Rattle.ct_index.proofs.Pages.{none_passes, flat_map_push, pages_push}
 use Rattle.ct_index.specs.Pages.{ArePages, IsPaged, AreFullBelow}
 use Rattle.ct_instance.specs.Instance.{Problem, IsPoint}
@@ -17,7 +18,7 @@ use Rattle.ct_instance.specs.TestSet.{Binomial}
 use Rattle.ct_instance.specs.Walk.{first_dividing, IsNormal}
 use Rattle.ct_instance.specs.Jobs.{the_move}
 use Rattle.ct_walk.specs.Moves.{IsSmallMove}
-use Rattle.ct_walk.proofs.Loops.{first_dividing_here, normal_more}
+use Rattle.ct_walk.proofs.Loops.{first_dividing_here}
 
 -- while more moves are added: the slabs so far are full, and with the open one they have the moves so far
 pub record Growing (i : Problem) (slabs : List (Arc (List Binomial) Global)) (done : List Binomial) (made : List (Arc (List Binomial) Global)) (rest : List Binomial) : Type 0 where
@@ -31,7 +32,7 @@ flat_map-values f [] = refl
 flat_map-values f (p ∷ ps) = ap (λ xs. f p ++ xs) (flat_map-values f ps)
 
 -- slabs with the same values
-pub same_slabs : (slabs made : List (Arc (List Binomial) Global)) → map arc_value made ≡ map arc_value slabs → ArePages arc_value slabs → length (flat_map arc_value slabs) ≤ 4096 →
+pub same_slabs : (slabs made : List (Arc (List Binomial) Global)) → map arc_value made ≡ map arc_value slabs → ArePages arc_value slabs → length (flat_map arc_value slabs) ≤ MOVE_LIMIT →
     IsPaged arc_value made × (flat_map arc_value made ≡ flat_map arc_value slabs)
 same_slabs slabs made same a most =
     let whole : flat_map arc_value made ≡ flat_map arc_value slabs = flat_map-values arc_value made ∙ ap (flat_map (λ b. b)) same ∙ sym (flat_map-values arc_value slabs) in
@@ -92,12 +93,12 @@ growing_new i slabs made done rest slab g whole is = record {
 
 -- the open slab is the last
 pub growing_end : (i : Problem) (slabs made : List (Arc (List Binomial) Global)) (done rest : List Binomial) (slab : Arc (List Binomial) Global) → Growing i slabs done made rest → arc_value slab ≡ rest →
-    length (flat_map arc_value slabs ++ done) ≤ 4096 → IsPaged arc_value (made ++ slab ∷ []) × (flat_map arc_value (made ++ slab ∷ []) ≡ flat_map arc_value slabs ++ done)
+    length (flat_map arc_value slabs ++ done) ≤ MOVE_LIMIT → IsPaged arc_value (made ++ slab ∷ []) × (flat_map arc_value (made ++ slab ∷ []) ≡ flat_map arc_value slabs ++ done)
 growing_end i slabs made done rest slab g is most =
     let whole : flat_map arc_value (made ++ slab ∷ []) ≡ flat_map arc_value slabs ++ done = flat_map_push arc_value made slab ∙ ap (λ xs. flat_map arc_value made ++ xs) is ∙ g.whole in (
       record {
         all = pages_push arc_value made slab g.full (subst (λ xs. length xs ≤ 128) (sym is) g.few);
-        most = subst (λ xs. length xs ≤ 4096) (sym whole) most;
+        most = subst (λ xs. length xs ≤ MOVE_LIMIT) (sym whole) most;
       },
       whole,
     )

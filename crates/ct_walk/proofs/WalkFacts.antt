@@ -230,10 +230,6 @@ pub walk_least : (i : Problem) → IsInstance i → (g : ℕ) (ms : List Binomia
     IsWalkEnd ms p q → IsLeast i (degree_of i.columns p) q
 walk_least i s g ms t = walk_least_within i s ms (test_list_moves i g ms t) (UpTo g) (parts_up_to g) t.complete
 
--- a point that a test list covers is led to the least point of its fiber
-pub leads_to_least : (i : Problem) → IsInstance i → (g : ℕ) (ms : List Binomial) → IsTestList i g ms → (b p : List ℕ) → IsInFiber i b p → total b ≤ g → Leads ms p (least_of i b)
-leads_to_least i s g ms t = leads_to_least_within i s ms (test_list_moves i g ms t) (UpTo g) (parts_up_to g) t.complete
-
--- so two points of one degree are led to one point
+-- two points of one degree that a test list covers are led to one point
 pub test_list_joins : (i : Problem) → IsInstance i → (g : ℕ) (ms : List Binomial) → IsTestList i g ms → (b p q : List ℕ) → IsInFiber i b p → IsInFiber i b q → total b ≤ g → AreJoined ms p q
 test_list_joins i s g ms t = joins_within i s ms (test_list_moves i g ms t) (UpTo g) (parts_up_to g) t.complete

@@ -42,6 +42,7 @@ pub fn is_below(inst: &Instance, p: &Point, q: &Point) -> bool
     requires q_limit { All (λ x. x ≤ GRADE_LIMIT) q.now }
     ensures { IsTrue result ↔ IsBelow inst.now p.now q.now }
 {
+    // Called for what it ensures: the instance is within the limits.
     let _rows = inst.rows();
     match compare(inst.costs(), p.as_slice(), q.as_slice()) {
         Ordering::Less => true,

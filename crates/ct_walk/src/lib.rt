@@ -6,20 +6,20 @@
 //! what steps and walks do, and has the lemma on critical pairs that makes it enough to look at those of small degree.
 #![tactic(auto)]
 
-mod binomials;
 mod degrees;
 mod faults;
 pub mod laws;
 mod move_list;
+mod moves;
 mod slabs;
-mod traces;
 mod walking;
+mod walks;
 
-pub use binomials::Move;
 pub use faults::MoveFault;
 pub use move_list::Moves;
-pub use traces::Walk;
+pub use moves::Move;
 pub use walking::{follow, walk, walk_end};
+pub use walks::Walk;
 
 #[cfg(test)]
 mod long_lists;

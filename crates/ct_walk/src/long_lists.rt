@@ -8,6 +8,7 @@ ghost use Rattle.ct_walk.specs.Moves.{IsSmallMove};
 use crate::{Move, Moves};
 use ct_instance::Instance;
 use ct_point::Point;
+use ct_vectors::limits::MOVE_LIMIT;
 use std::alloc::Global;
 use std::process::Abort;
 use std::sync::Arc;
@@ -32,7 +33,7 @@ fn exchange(rt: &impl Abort, alloc: Global, inst: &Instance, k: u64) -> Move
     assert!(rt; inst.rows() == 1 && inst.columns() == 1);
     let head = Point::from_slice(alloc, &[0, k]).expect(rt, "a point");
     let tail = Point::from_slice(alloc, &[k, 0]).expect(rt, "a point");
-    Move::new(inst, 4096, head, tail).expect(rt, "a move")
+    Move::new(inst, MOVE_LIMIT as u64, head, tail).expect(rt, "a move")
 }
 
 // The exchanges of count, then of one less, and so on: the first that divides y artificials is that of y itself.
@@ -54,6 +55,7 @@ fn falling(rt: &impl Abort, alloc: Global, inst: &Arc<Instance>, count: u64) -> 
 fn scan(moves: &Moves, p: &Point) -> Option<u32>
     requires { IsPoint moves.now.instance p.now }
 {
+    // Called for what it ensures: these are moves of an instance within the limits.
     let _inst = moves.instance();
     for number in 1..moves.len() + 1 {
         if moves.get(number).head().divides(p) {
@@ -84,8 +86,9 @@ fn lists_around_a_slab_are_looked_up_as_by_a_scan(rt: HostRuntime) {
 #[test]
 fn the_longest_list_is_looked_up_as_by_a_scan(rt: HostRuntime) {
     let inst = one_column(&rt, rt.alloc());
-    let moves = falling(&rt, rt.alloc(), &inst, 4096);
-    for y in [0, 1, 128, 129, 130, 3968, 3969, 4096] {
+    let most = MOVE_LIMIT as u64;
+    let moves = falling(&rt, rt.alloc(), &inst, most);
+    for y in [0, 1, 128, 129, 130, most - 128, most - 127, most] {
         agrees(&rt, rt.alloc(), &inst, &moves, y);
     }
     let same = moves

@@ -10,7 +10,7 @@ ghost use Rattle.ct_instance.specs.Walk.{first_dividing};
 ghost use Rattle.ct_instance.specs.Jobs.{the_move};
 ghost use Rattle.ct_walk.specs.Moves.{IsSmallMove, IsMoveList};
 
-use crate::binomials::Move;
+use crate::moves::Move;
 use crate::slabs::{self, Slab};
 use ct_index::{BLOCK_SIZE, Places};
 use ct_instance::Instance;
@@ -49,6 +49,7 @@ impl Moves {
         ensures instance { result.instance ≡ arc_value inst }
         ensures moves { result.moves ≡ [] }
     {
+        // Called for what it ensures: the instance is within the limits.
         let _rows = inst.rows();
         Moves {
             alloc,

@@ -6,7 +6,7 @@ ghost use Rattle.std.specs.Arc.{arc_value};
 ghost use Rattle.ct_index.specs.Pages.{ArePages, IsPaged, AreFullBelow};
 ghost use Rattle.ct_walk.specs.Moves.{IsSmallMove};
 
-use crate::binomials::Move;
+use crate::moves::Move;
 use ct_index::HeadBlock;
 use ct_instance::Instance;
 use std::alloc::{AllocError, Global};

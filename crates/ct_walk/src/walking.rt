@@ -8,7 +8,7 @@ ghost use Rattle.ct_instance.specs.Jobs.{the_move};
 ghost use Rattle.ct_walk.specs.Moves.{Follows, CanApply, IsRefused};
 
 use crate::move_list::Moves;
-use crate::traces::Walk;
+use crate::walks::Walk;
 use ct_point::Point;
 use std::alloc::{AllocError, Global};
 
@@ -19,6 +19,7 @@ pub fn walk(alloc: Global, moves: &Moves, p: Point) -> Result<Walk, AllocError>
     requires grade { grade_of moves.now.instance.columns p ≤ GRADE_LIMIT }
     ensures { IfOk result (λ w. IsWalk moves.now.moves p w.steps w.end) }
 {
+    // Called for what it ensures: these are moves of an instance within the limits.
     let _inst = moves.instance();
     let mut steps = Vec::new(alloc);
     let mut here = p;
@@ -34,6 +35,7 @@ pub fn walk_end(moves: &Moves, p: &mut Point)
     requires grade { grade_of moves.now.instance.columns p.old ≤ GRADE_LIMIT }
     ensures { IsWalkEnd moves.now.moves p.old p.new }
 {
+    // Called for what it ensures: these are moves of an instance within the limits.
     let _inst = moves.instance();
     while let Some(_) = step_on(moves, p) {}
 }
@@ -67,6 +69,7 @@ fn make_move(moves: &Moves, number: u32, times: u64, p: &mut Point)
     ensures point { IsPoint moves.now.instance p.new }
     ensures grade { grade_of moves.now.instance.columns p.new ≡ grade_of moves.now.instance.columns p.old }
 {
+    // Called for what it ensures: these are moves of an instance within the limits.
     let _inst = moves.instance();
     let mv = moves.get(number);
     p.shift(mv.head(), mv.tail(), times);

@@ -10,7 +10,7 @@ use Rattle.atomic_table.specs.Table.{State, Me, Act, Valid, step, keeps, takes, 
 use Rattle.atomic_table.proofs.Lists.{at_set, set_else, at_longer, at_snoc}
 use Rattle.turn_cell.specs.declared.note.Note.{Note}
 use Rattle.turn_cell.specs.Turn.{Knows, IsFree, IsTaken, TurnRule, spent_note}
-use Rattle.turn_cell.specs.Told.{carried_with, Looked, Took, Released, sees, finds, wins, releases, keeps_one, gives_one, takes_in}
+use Rattle.turn_cell.specs.Told.{Looked, Took, Released, sees, finds, wins, releases, keeps_one, gives_one, takes_in}
 
 double_half : (k : ℕ) → (2 * k) / 2 ≡ k
 double_half k = omega arith
@@ -42,10 +42,6 @@ module _ {V : Type 0} where
   -- exchange out: the pass has the slot of the turn in hand, and no view changes
   pub exchanges_out : (carried : List (ℕ × Option V)) (inside : Option V) → carried ≡ (0, inside) ∷ [] → (old : Option V) × (carried ≡ (0, old) ∷ rest carried)
   exchanges_out carried inside is = (inside, is ∙ ap (λ (l : List (ℕ × Option V)). (0, inside) ∷ rest l) (sym is))
-
-  -- exchange in: the slot in hand, and nothing else, has the value that goes home, and no view changes
-  pub exchanges_in : (carried now : List (ℕ × Option V)) (held : Option ℕ) (k : ℕ) (value : V) → now ≡ (0, Some value) ∷ rest carried → carried ≡ carried_with held → held ≡ Some k → now ≡ (0, Some value) ∷ []
-  exchanges_in carried now held k value is before holds = is ∙ ap (λ (l : List (ℕ × Option V)). (0, Some value) ∷ rest l) (before ∙ ap carried_with holds)
 
 module _ {V N : Type 0} (number_of : V → ℕ) (name_of : V → N) (opened : V) where
   abbrev St : Type 0

@@ -3,10 +3,11 @@ use Rattle.std.proofs.lemmas.Bool.{cond-true, cond-false}
 use Rattle.ct_vectors.specs.declared.limits.TheConstants.{GRADE_LIMIT}
 use Rattle.ct_instance.specs.Instance.{IsPoint, grade_of}
 use Rattle.ct_instance.specs.Jobs.{first_end_of, second_end_of}
-use Rattle.ct_checker.specs.Refusals.{same_job, is_coprime, end_of_steps, walks_reason}
+use Rattle.ct_checker.specs.Refusals.{is_coprime, end_of_steps, walks_reason}
+use Rattle.ct_checker.specs.Accepted.{job_of}
 use Rattle.ct_checker.specs.declared.verdicts.Reason.TheVariants.{Coprime}
 use Rattle.ct_checker.proofs.Refusals.{coprime_test, coprime_false}
-use Rattle.ct_checker.proofs.Entries.{walked_from, walks_wrong}
+use Rattle.ct_checker.proofs.Entries.{walked_from, walks_wrong, same_from_ne}
 use Rattle.ct_checker.proofs.ledger_entries.wrong_with.Goals as goal
 
 pub returns-then-coprime-clause-reason : goal.returns-then-coprime-clause-reason
@@ -15,7 +16,7 @@ returns-then-coprime-clause-reason c =
     let ms = c.args.moves.now.moves in
     let rest = walks_reason (end_of_steps ms (first_end_of i ms c.args.job) c.in-Walks.one) (end_of_steps ms (second_end_of i ms c.args.job) c.in-Walks.other) in
     sym (walks_wrong i ms c.args.job c.in-Walks.field-0 c.args.entry.now c.in-Walks.one c.in-Walks.other c.in-Walks.is
-    (c.if-not-is_same_job.ensures ∙ ap (same_job c.args.job) c.job_of.ensures) ∙
+    (same_from_ne c.args.job c.job_of.result (job_of c.args.entry.now) c.if-ne.ensures c.job_of.ensures) ∙
     cond-true (is_coprime ms c.args.job) (Some Coprime) rest ((coprime_test ms c.args.job).1 (c.if-coprime.ensures.0 refl)))
 
 pub wrong_walks-requires-clause-first_point : goal.wrong_walks-requires-clause-first_point
@@ -49,4 +50,4 @@ returns-else-coprime-clause-reason c =
     (walks_reason (end_of_steps ms (first_end_of i ms c.args.job) c.in-Walks.one) (end_of_steps ms (second_end_of i ms c.args.job) c.in-Walks.other))
     (coprime_false ms c.args.job (λ k. true≢false (sym (c.if-coprime.ensures.1 k))))) ∙
     sym (walks_wrong i ms c.args.job c.in-Walks.field-0 c.args.entry.now c.in-Walks.one c.in-Walks.other c.in-Walks.is
-    (c.if-not-is_same_job.ensures ∙ ap (same_job c.args.job) c.job_of.ensures))
+    (same_from_ne c.args.job c.job_of.result (job_of c.args.entry.now) c.if-ne.ensures c.job_of.ensures))

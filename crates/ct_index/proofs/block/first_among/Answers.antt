@@ -1,8 +1,7 @@
-use Rattle.std.proofs.Common.{ℕ, ◌≡◌, ◌<◌, Bool, true, false, Some, None, List, [], length, map, get_or, refl, sym, ◌∙◌, subst, ap, arith, rules, IsTrue}
+use Rattle.std.proofs.Common.{ℕ, ◌≡◌, ◌<◌, true, false, [], length, map, get_or, sym, ◌∙◌, ap, arith}
 use Rattle.std.specs.Int.{bit_at, w128, trailing_zeros}
-use Rattle.std.specs.List.{position}
 use Rattle.std.proofs.lemmas.Nat.Bits.{bit_at-zero, shr_and_one}
-use Rattle.std.proofs.lemmas.List.{get_or-map, length-map}
+use Rattle.std.proofs.lemmas.List.{length-map}
 use Rattle.ct_vectors.specs.Vectors.{divides}
 use Rattle.ct_index.proofs.BitFacts.{IsLowest, lowest, cleared_smaller}
 use Rattle.ct_index.proofs.Lookups.{position-map, at_item, trying_more, trying_found, trying_none}

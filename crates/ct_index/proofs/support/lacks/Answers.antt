@@ -1,4 +1,4 @@
-use Rattle.std.proofs.Common.{ℕ, ◌≡◌, ◌<◌, get_or, arith}
+use Rattle.std.proofs.Common.{arith}
 use Rattle.std.specs.Int.{w128, trailing_zeros}
 use Rattle.std.proofs.lemmas.List.{get_or_past}
 use Rattle.ct_index.proofs.BitFacts.{IsLowest, lowest, cleared_smaller, cleared_set}

@@ -1,4 +1,4 @@
-use Rattle.std.proofs.Common.{◌<◌, ◌+◌, ◌≡◌, get_or, arith, sym, subst}
+use Rattle.std.proofs.Common.{◌+◌, arith, sym, subst}
 use Rattle.ct_index.proofs.BitFacts.{IsSupportTo, support_not, support_more, support_all}
 use Rattle.ct_index.proofs.support.support_of.Goals as goal
 use Rattle.ct_index.proofs.support.support_of.Goals.{then-p-i-gt0, else-p-i-gt0}

@@ -1,5 +1,4 @@
-use Rattle.std.proofs.Common.{◌≡◌, ◌+◌, arith, sym, subst, IsTrue, false}
-use Rattle.ct_index.specs.Table.{IsAbove}
+use Rattle.std.proofs.Common.{◌+◌, arith, sym, subst, IsTrue, false}
 use Rattle.ct_index.proofs.BitFacts.{AreMarkedTo, marked_not, marked_more, marked_all}
 use Rattle.ct_index.proofs.table.mark.Goals as goal
 use Rattle.ct_index.proofs.table.mark.Goals.{then-is_above, else-is_above}

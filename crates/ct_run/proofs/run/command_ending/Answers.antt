@@ -5,7 +5,7 @@ use Rattle.ct_input.specs.declared.fault.InputStop.{InputStop}
 use Rattle.ct_input.specs.Sheet.{Fails}
 use Rattle.ct_outside.specs.Shelf.{Told}
 use Rattle.ct_input.specs.declared.limits.TheConstants.{INSTANCE_FILE_LIMIT}
-use Rattle.ct_input.specs.Files.{instance_file}
+use Rattle.ct_run.specs.Forms.{instance_file}
 use Rattle.ct_instance.specs.Instance.{Problem}
 use Rattle.ct_run.specs.Commands.{seen}
 use Rattle.ct_run.specs.Outcome.{bad_instance}

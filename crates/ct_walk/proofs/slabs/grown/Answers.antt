@@ -4,6 +4,7 @@ use Rattle.std.specs.Arc.{arc_value}
 use Rattle.std.specs.Vec.Iter.{into_iter_items}
 use Rattle.std.proofs.lemmas.List.{nil_from_length, get_or-append-add, get_or_append_left, length-append}
 use Rattle.std.proofs.lemmas.List.Elements.{All-append}
+use Rattle.ct_vectors.specs.declared.limits.TheConstants.{MOVE_LIMIT}
 use Rattle.ct_index.specs.Pages.{IsPaged}
 use Rattle.ct_instance.specs.Instance.{Problem}
 use Rattle.ct_instance.specs.TestSet.{Binomial}
@@ -66,7 +67,7 @@ returns c =
     let done : c.args.more.items ≡ c.loop-mv.yielded =
     c.loop-mv.invariant.1 ∙ ap (λ xs. c.loop-mv.yielded ++ xs) (nil_from_length (into_iter_items c.loop-mv.mv-iterator) none) ∙ append-nil c.loop-mv.yielded in
     let end = growing_end c.args.inst.now c.args.slabs.now c.loop-mv.made.items c.loop-mv.yielded c.loop-mv.open c.in_ok-new-2.field-0 c.loop-mv.invariant.0 c.in_ok-new-2.ensures.ok
-    (subst (λ xs. length (flat_map arc_value c.args.slabs.now ++ xs) ≤ 4096) done c.requires.room) in (
+    (subst (λ xs. length (flat_map arc_value c.args.slabs.now ++ xs) ≤ MOVE_LIMIT) done c.requires.room) in (
       subst (IsPaged arc_value) (sym c.in_ok-push-2.ensures.items) end.0,
       ap (flat_map arc_value) c.in_ok-push-2.ensures.items ∙ end.1 ∙ ap (λ xs. flat_map arc_value c.args.slabs.now ++ xs) (sym done),
     )

@@ -1,4 +1,4 @@
-use Rattle.std.proofs.Common.{ℕ, ◌≡◌, ◌⊎◌, inl, inr, ap, sym, ◌∙◌}
+use Rattle.std.proofs.Common.{inl, ap, sym, ◌∙◌}
 use Rattle.std.specs.Int.{bit_at}
 use Rattle.ct_index.proofs.BitFacts.{decided_more}
 use Rattle.ct_index.proofs.bits.HeadBits.enter.Goals as goal

@@ -1,4 +1,4 @@
-use Rattle.std.proofs.Common.{ℕ, ◌≡◌, ◌<◌, ◌*◌, List, [], All, length, map, get_or, sym, ◌∙◌, subst, ap, arith, Option, Some, None, false, eqb, eqb-true}
+use Rattle.std.proofs.Common.{ℕ, ◌≡◌, ◌<◌, List, [], All, length, map, get_or, sym, ◌∙◌, subst, arith, None, false, eqb, eqb-true}
 use Rattle.std.specs.List.{position}
 use Rattle.std.specs.Int.{w128, bit_not}
 use Rattle.std.proofs.lemmas.List.{length-map}
@@ -6,7 +6,7 @@ use Rattle.std.proofs.lemmas.List.Elements.{All-map}
 use Rattle.ct_vectors.specs.Vectors.{divides}
 use Rattle.ct_index.specs.declared.bits.HeadBits.{HeadBits}
 use Rattle.ct_index.specs.Bits.{IsIndex}
-use Rattle.ct_index.specs.Table.{row_count, ArePlaces, IsExcluded, LeavesOut, AreDecided, LacksSome}
+use Rattle.ct_index.specs.Table.{row_count, IsExcluded, LeavesOut, AreDecided, LacksSome}
 use Rattle.ct_index.proofs.Additions.{width_from}
 use Rattle.ct_index.proofs.Lookups.{position-map, position_none, lacking, places_within, leaves_out, are_decided}
 use Rattle.ct_index.proofs.block.HeadBlock.first_dividing.Goals as goal

@@ -1,4 +1,4 @@
-use Rattle.std.proofs.Common.{ℕ, ◌≡◌, ◌<◌, List, [], ◌∷◌, ◌++◌, All, length, map, get_or, sym, ◌∙◌, subst, ap, arith, refl, rules}
+use Rattle.std.proofs.Common.{◌≡◌, [], ◌∷◌, ◌++◌, All, length, map, get_or, sym, ◌∙◌, subst, ap, arith}
 use Rattle.std.proofs.lemmas.List.{map_push, length-map, get_or_push, same_from_push}
 use Rattle.std.proofs.lemmas.List.Elements.{All-map}
 use Rattle.ct_index.specs.Bits.{IsIndex}

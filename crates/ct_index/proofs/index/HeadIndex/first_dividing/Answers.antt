@@ -1,9 +1,9 @@
-use Rattle.std.proofs.Common.{ℕ, ◌≡◌, ◌+◌, ◌*◌, ◌<◌, List, [], All, length, get_or, take, sym, ◌∙◌, subst, ap, arith, Some, None, suc, refl, add-one}
+use Rattle.std.proofs.Common.{ℕ, ◌≡◌, ◌+◌, ◌*◌, ◌<◌, List, [], All, length, get_or, take, sym, ◌∙◌, subst, ap, arith, Some, None, suc, add-one}
 use Rattle.std.specs.Option.{option_map}
 use Rattle.std.specs.List.{position, flat_map}
-use Rattle.std.proofs.lemmas.List.{take_all}
 use Rattle.std.proofs.lemmas.List.Quantifiers.{position-Some}
 use Rattle.ct_vectors.specs.Vectors.{divides}
+use Rattle.ct_vectors.specs.declared.limits.TheConstants.{MOVE_LIMIT}
 use Rattle.ct_index.specs.Pages.{IsPaged}
 use Rattle.ct_index.proofs.Pages.{All-page, scanned_more, scanned_found}
 use Rattle.ct_index.proofs.index.HeadIndex.first_dividing.Goals as goal
@@ -17,7 +17,7 @@ first_dividing-requires-clause-widths c =
 -- the head that is found, and its index
 record Found (heads p : List (List ℕ)) (q : List ℕ) (k j : ℕ) : Type 0 where
   at : position (λ h. divides h q) heads ≡ Some (128 * k + j)
-  few : 128 * k + j < 4096
+  few : 128 * k + j < MOVE_LIMIT
 
 found : (blocks : List (List (List ℕ))) (block : List (List ℕ)) (p : List ℕ) (k j : ℕ) → IsPaged (λ b. b) blocks → k < length blocks → block ≡ get_or blocks k block →
     position (λ h. divides h p) (flat_map (λ b. b) (take k blocks)) ≡ None → position (λ h. divides h p) block ≡ Some j → Found (flat_map (λ b. b) blocks) block p k j

@@ -1,9 +1,10 @@
-use Rattle.std.proofs.Common.{ℕ, ◌≡◌, ◌+◌, ◌-◌, ◌<◌, ◌≤◌, Result, Ok, Err, List, [], ◌∷◌, ◌++◌, All, length, get_or, set, sym, ◌∙◌, subst, ap, arith, append-nil, IsTrue, ap₂}
+use Rattle.std.proofs.Common.{ℕ, ◌≡◌, ◌+◌, ◌-◌, ◌<◌, Result, Ok, Err, List, [], ◌∷◌, ◌++◌, All, length, get_or, set, sym, ◌∙◌, subst, ap, arith, append-nil, IsTrue, ap₂}
 use Rattle.std.specs.List.{flat_map}
 use Rattle.std.specs.Result.{OnOk, OnErr}
 use Rattle.std.proofs.lemmas.List.{length_push, get_or_default}
+use Rattle.ct_vectors.specs.declared.limits.TheConstants.{MOVE_LIMIT}
 use Rattle.ct_index.specs.Pages.{IsPaged}
-use Rattle.ct_index.proofs.Pages.{All-page, paged_set, paged_push, flat_map-set, flat_map_push}
+use Rattle.ct_index.proofs.Pages.{All-page, paged_set, paged_push, flat_map-set}
 use Rattle.ct_index.proofs.index.HeadIndex.push.Goals as goal
 use Rattle.ct_index.proofs.index.HeadIndex.push.Goals.{else-count-gt0-via-then-count-gt0+else-not-is_full, else-count-gt0-via-else-count-gt0}
 
@@ -16,7 +17,7 @@ add-requires-clause-width c =
 
 -- whether the head was added or not
 grown : {E : Type 0} (r : Result (Unit {0}) E) (blocks : List (List (List ℕ))) (k : ℕ) (old new : List (List ℕ)) (head : List ℕ) → OnOk r (new ≡ old ++ head ∷ []) → OnErr r (new ≡ old) →
-    old ≡ get_or blocks k old → k + 1 ≡ length blocks → length old < 128 → length (flat_map (λ b. b) blocks) < 4096 → IsPaged (λ b. b) blocks → IsPaged (λ b. b) (set blocks k new)
+    old ≡ get_or blocks k old → k + 1 ≡ length blocks → length old < 128 → length (flat_map (λ b. b) blocks) < MOVE_LIMIT → IsPaged (λ b. b) blocks → IsPaged (λ b. b) (set blocks k new)
 grown (Ok u) blocks k old new head ok err is last room few a =
     paged_set (λ b. b) blocks k new (head ∷ []) a last (ok ∙ ap (λ b. b ++ head ∷ []) (is ∙ get_or_default blocks k old new (omega arith))) (omega (arith, ap length ok, length_push old head)) (omega arith)
 grown (Err e) blocks k old new head ok err is last room few a =
@@ -34,7 +35,7 @@ invariant_of-self c =
     let same : c.index.result.now ≡ c.index_mut.result.now = c.index.ensures ∙ get_or_default c.self.inside.blocks.items (c.len-count.result - 1) c.index.result.now c.index_mut.result.now (omega (arith, c.self.inside.blocks.ok.0)) ∙ sym c.index_mut.ensures.value in
     grown c.add.result c.self.inside.blocks.items (c.len-count.result - 1) c.index_mut.result.now c.add.new.block c.in_ok-copy.copy c.add.ensures.ok c.add.ensures.err c.index_mut.ensures.value
     (omega (arith, c.self.inside.blocks.ok.0)) (omega (arith, not_full, c.is_full.ensures.few, ap length same))
-    (subst (λ xs. length xs < 4096) (sym c.self.view_is) c.requires.room) c.self.invariant
+    (subst (λ xs. length xs < MOVE_LIMIT) (sym c.self.view_is) c.requires.room) c.self.invariant
 
 pub returns-then-not-is_full-clause-ok : goal.returns-then-not-is_full-clause-ok
 returns-then-not-is_full-clause-ok c =
@@ -45,7 +46,7 @@ pub invariant_of-self-2 : goal.invariant_of-self-2
 invariant_of-self-2 c =
     let block : c.add-2.new.block ≡ c.in_ok-copy.copy ∷ [] = c.in_ok-add.ensures.ok ∙ ap (λ b. b ++ c.in_ok-copy.copy ∷ []) c.new-block.ensures in
     let one : length c.add-2.new.block ≡ 1 = ap length block in
-    let room : length (flat_map (λ b. b) c.self.inside.blocks.items) < 4096 = subst (λ xs. length xs < 4096) (sym c.self.view_is) c.requires.room in
+    let room : length (flat_map (λ b. b) c.self.inside.blocks.items) < MOVE_LIMIT = subst (λ xs. length xs < MOVE_LIMIT) (sym c.self.view_is) c.requires.room in
     subst (IsPaged (λ b. b)) (sym c.in_ok-push.ensures.items)
     (paged_push (λ b. b) c.self.inside.blocks.items c.add-2.new.block c.self.invariant
     (λ k l d. elim c.else-count-gt0.branch [

@@ -7,6 +7,7 @@ use Rattle.std.specs.declared.alloc.Global.{Global}
 use Rattle.std.proofs.lemmas.List.{take_all}
 use Rattle.std.proofs.lemmas.List.Quantifiers.{position-Some}
 use Rattle.ct_vectors.specs.Vectors.{divides}
+use Rattle.ct_vectors.specs.declared.limits.TheConstants.{MOVE_LIMIT}
 use Rattle.ct_index.specs.Pages.{ArePages}
 use Rattle.ct_index.proofs.Pages.{All-page, scanned_more, scanned_found}
 use Rattle.ct_instance.specs.Instance.{IsPoint}
@@ -25,9 +26,9 @@ first_dividing-requires-clause-widths c =
 -- the move that is found, and its place
 record Found (ms : List Binomial) (p : List ℕ) (k j : ℕ) : Type 0 where
   at : position (λ m. divides m.head p) ms ≡ Some (128 * k + j)
-  few : 128 * k + j < 4096
+  few : 128 * k + j < MOVE_LIMIT
 
-found : (slabs : List (Arc (List Binomial) Global)) (slab : Arc (List Binomial) Global) (p : List ℕ) (k j : ℕ) → ArePages arc_value slabs → length (flat_map arc_value slabs) ≤ 4096 → k < length slabs →
+found : (slabs : List (Arc (List Binomial) Global)) (slab : Arc (List Binomial) Global) (p : List ℕ) (k j : ℕ) → ArePages arc_value slabs → length (flat_map arc_value slabs) ≤ MOVE_LIMIT → k < length slabs →
     slab ≡ get_or slabs k slab → position (λ m. divides m.head p) (flat_map arc_value (take k slabs)) ≡ None → position (λ m. divides m.head p) (arc_value slab) ≡ Some j →
     Found (flat_map arc_value slabs) p k j
 found slabs slab p k j a most l is before here =

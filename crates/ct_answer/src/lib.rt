@@ -1,0 +1,17 @@
+//! Answering a script in one thread.
+//!
+//! One book serves the whole script. It is completed up to what each request needs, and up to what each level needs where
+//! levels are asked for, and no further; a request that its version covers costs one walk. What comes out is the one legal
+//! report of the script with each ask taken as a solve.
+#![tactic(auto)]
+
+mod answering;
+mod grades;
+mod options;
+mod solver;
+
+pub use answering::answer;
+pub use options::Options;
+
+#[cfg(test)]
+mod tests;

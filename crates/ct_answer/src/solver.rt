@@ -1,0 +1,119 @@
+//! A book that one thread completes as far as requests need.
+ghost use Rattle.std.specs.Prelude.{◌≡◌, ◌≤◌, All, IfOk, Some, None, cond};
+ghost use Rattle.ct_vectors.specs.declared.limits.TheConstants.{ROW_LIMIT, RIGHT_LIMIT, GRADE_LIMIT, MOVE_LIMIT};
+ghost use Rattle.ct_vectors.specs.Vectors.{total};
+ghost use Rattle.ct_instance.specs.Instance.{IsRight};
+ghost use Rattle.ct_instance.specs.Answer.{answer_of};
+ghost use Rattle.ct_instance.specs.Versions.{Covers, level_of};
+ghost use Rattle.ct_instance.specs.Reach.{reach_of};
+ghost use Rattle.ct_version.specs.Editions.{level_seen};
+ghost use Rattle.ct_session.specs.Lines.{IsAnsweredLine, IsSolveLine};
+
+use ct_book::Book;
+use ct_instance::Instance;
+use ct_order::sum;
+use ct_point::Seq;
+use ct_session::Line;
+use ct_version::{Answered, AskStop, Finished, Stop, Version};
+use ct_walk::Walk;
+use std::alloc::{AllocError, Global};
+use std::marker::Model;
+use std::sync::Arc;
+
+/// A book of one pass, seen as its instance and limit, which never change.
+#[derive(Drop)]
+pub struct Solver {
+    book: Book,
+}
+
+impl Model for Solver {
+    ghost use Rattle.std.specs.Prelude.{◌≡◌};
+    ghost use Rattle.ct_version.specs.Desks.{Place};
+    ghost use Rattle.ct_book.specs.Books.{place_of};
+
+    ghost Value = { Place };
+
+    ghost view = { λ s. place_of s.book };
+
+    ghost invariant = { λ s. (s.book).passes ≡ 1 };
+}
+
+impl Solver {
+    ghost use Rattle.std.specs.Arc.{arc_value};
+
+    /// A solver with no moves yet, linear in the columns.
+    pub fn open(alloc: Global, inst: Arc<Instance>, limit: u32) -> Result<Solver, AllocError>
+        requires some { 1 ≤ limit }
+        requires most { limit ≤ MOVE_LIMIT }
+        ensures { IfOk result (λ s. s ≡ record { instance = arc_value inst; limit = limit }) }
+    {
+        let book = Book::open(alloc, inst, limit, 1)?;
+        Ok(Solver { book })
+    }
+
+    /// The number of rows of the instance.
+    pub fn rows(&self) -> usize
+        ensures rows { result ≡ self.now.instance.rows }
+        ensures limit { result ≤ ROW_LIMIT }
+    {
+        self.book.version().moves().instance().rows()
+    }
+
+    /// The line of a solve of b. It completes the book up to the sum of b, where its version doesn't cover that already,
+    /// and walks once.
+    pub fn line(&mut self, alloc: Global, b: &[u64], walks: bool) -> Result<Line, AllocError>
+        requires right { IsRight self.old.instance b.now }
+        requires limit { All (λ x. x ≤ RIGHT_LIMIT) b.now }
+        ensures place { self.new ≡ self.old }
+        ensures line { IfOk result (IsSolveLine self.old.instance self.old.limit walks (answer_of self.old.instance b.now) b.now) }
+    {
+        let _rows = self.rows();
+        match self.book.complete(alloc, 0, sum(b)) {
+            Ok(helped) => answered(alloc, &helped.version, b, walks),
+            Err(Stop::Full(mark)) => Ok(Line::Full { grade: mark.grade }),
+            Err(Stop::Memory) => Err(AllocError),
+        }
+    }
+
+    /// How far a completion for this grade comes. It completes the book so far.
+    #[tactic(auto, using(crate::proofs::ToldReports::reach_helped, crate::proofs::ToldReports::reach_marked))]
+    pub fn level(&mut self, alloc: Global, grade: u64) -> Result<Finished, AllocError>
+        requires { grade ≤ GRADE_LIMIT }
+        ensures place { self.new ≡ self.old }
+        ensures level { IfOk result (λ f. level_seen f ≡ reach_of self.old.instance self.old.limit grade) }
+    {
+        match self.book.complete(alloc, 0, grade) {
+            Ok(helped) => Ok(helped.level),
+            Err(Stop::Full(mark)) => Ok(Finished::Upto(mark.grade.saturating_sub(1))),
+            Err(Stop::Memory) => Err(AllocError),
+        }
+    }
+}
+
+// The line of b by a version that covers its sum.
+fn answered(alloc: Global, version: &Version, b: &[u64], walks: bool) -> Result<Line, AllocError>
+    requires right { IsRight version.now.instance b.now }
+    requires limit { All (λ x. x ≤ RIGHT_LIMIT) b.now }
+    requires covers { Covers (level_of version.now.instance version.now.number) (total b.now) }
+    ensures { IfOk result (IsAnsweredLine version.now.instance walks (answer_of version.now.instance b.now) b.now) }
+{
+    match version.answer(alloc, b) {
+        Err(AskStop::Memory) => Err(AllocError),
+        Err(AskStop::NotYet { finished: _ }) => unreachable!(),
+        Ok(Answered { answer, walk }) => Ok(Line::Answered {
+            answer,
+            walk: shown(walk, walks),
+        }),
+    }
+}
+
+// The steps, where walks are asked for.
+fn shown(walk: Walk, walks: bool) -> Option<Seq<(u32, u64)>>
+    ensures { result ≡ cond walks (Some walk.steps) None }
+{
+    if !walks {
+        return None;
+    }
+    let (steps, _end) = walk.into_parts();
+    Some(Seq::from_vec(steps))
+}

@@ -1,0 +1,6 @@
+pub mod Counts
+pub mod Lists
+pub mod Called
+pub mod Pinned
+pub mod Dealing
+pub mod Joining

@@ -1,0 +1,5 @@
+use Rattle.ct_host.specs.Steps.{Helps}
+use Rattle.ct_host.proofs.helping.help.Given as goal
+
+abbrev pub invariant-loop : goal.invariant-loop
+invariant-loop g l = Helps l.initial.pass l.pass

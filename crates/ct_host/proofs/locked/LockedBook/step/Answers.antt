@@ -1,0 +1,24 @@
+use Rattle.std.proofs.Common.{◌≡◌, ◌<◌, sym, ap, subst, arith}
+use Rattle.ct_book.specs.Books.{BookSeen, edition_of, place_of}
+use Rattle.ct_book.specs.Benches.{BenchPlace}
+use Rattle.ct_version.specs.Desks.{IsOfPlace}
+use Rattle.ct_host.proofs.Called.{Stepped, stepped, fits_here}
+use Rattle.ct_host.proofs.locked.LockedBook.step.Goals as goal
+
+pub returns : goal.returns
+returns c =
+    let b = c.self.inside.book in let after = c.step-answer.new.self in
+    let own : c.args.by < b.passes = subst (λ (x : BookSeen). c.args.by < x.passes) (sym c.self.view_is) c.requires.pass in
+    let placed : IsOfPlace (place_of after) (edition_of after) = subst (IsOfPlace (place_of after)) c.version-version.ensures.version c.version-version.ensures.place in
+    let s : Stepped c.args.self.now after c.args.by c.args.target c.step-answer.result =
+    subst (λ (x : BookSeen). Stepped x after c.args.by c.args.target c.step-answer.result) c.self.view_is
+    (stepped b after c.args.by c.args.target c.step-answer.result own c.step-answer.ensures.answer c.step-answer.ensures.refused c.step-answer.ensures.counts placed) in
+    let passes : after.passes ≡ c.args.self.now.passes = ap (λ (p : BenchPlace). p.passes) s.place in
+    record {
+      place = s.place;
+      answer = s.answer;
+      grows = s.grows;
+      fits = fits_here after c.args.by c.entries-entries.result _ (omega (arith, passes, c.requires.pass)) c.entries-entries.ensures c.entries-entries.type_inv;
+      count = s.count;
+      refused = s.refused;
+    }

@@ -1,0 +1,4 @@
+pub mod Values
+pub mod Hosts
+pub mod Steps
+pub mod Closing

@@ -1,0 +1,68 @@
+//! Helping until a version covers a grade.
+ghost use Rattle.std.specs.Prelude.{◌≡◌, ◌≤◌, IfOk, IfErr};
+ghost use Rattle.ct_vectors.specs.declared.limits.TheConstants.{GRADE_LIMIT};
+ghost use Rattle.ct_version.specs.Desks.{Extends, IsHelp, IsStop};
+ghost use Rattle.ct_book.specs.Benches.{desk_place};
+ghost use Rattle.ct_host.specs.Hosts.{IsOfHost};
+ghost use Rattle.ct_host.specs.Steps.{HasSeenHelp, HasSeenStop, Helps};
+
+use crate::host::Host;
+use crate::passes::HostPass;
+use crate::stepping::{commit, step};
+use ct_book::{Step, Task};
+use ct_version::{Helped, Stop};
+use std::alloc::{AllocError, Global};
+use std::sync::Wait;
+
+// Takes steps, reduces without the lock and commits, until a step reaches the target or the limit.
+pub fn help<R: Wait>(
+    host: &Host,
+    rt: &R,
+    alloc: Global,
+    pass: &mut HostPass,
+    target: u64,
+) -> Result<Helped, Stop>
+    requires own { IsOfHost host.now pass.old }
+    requires target { target ≤ GRADE_LIMIT }
+    ensures helps { Helps pass.old pass.new }
+    ensures ok { IfOk result (IsHelp (desk_place host.now.place) target) }
+    ensures stop { IfErr result (IsStop (desk_place host.now.place) target) }
+    ensures seen { IfOk result (HasSeenHelp pass.new.seen) }
+    ensures seen_full { IfErr result (HasSeenStop pass.new.seen) }
+{
+    for _ in rt.forever() {
+        match step(host, rt, alloc, pass, target) {
+            Err(_) => return Err(Stop::Memory),
+            Ok(Step::Reached(helped)) => return Ok(helped),
+            Ok(Step::Full(mark)) => return Err(Stop::Full(mark)),
+            Ok(Step::Published(_version)) => {}
+            Ok(Step::Reduce(task)) => {
+                if reduce_and_commit(host, rt, alloc, pass, task).is_err() {
+                    return Err(Stop::Memory);
+                }
+            }
+        }
+    }
+    unreachable!()
+}
+
+// Reduces a task with no lock, and commits what it leaves.
+fn reduce_and_commit<R: Wait>(
+    host: &Host,
+    rt: &R,
+    alloc: Global,
+    pass: &mut HostPass,
+    task: Task,
+) -> Result<(), AllocError>
+    requires own { IsOfHost host.now pass.old }
+    requires instance { task.version.instance ≡ host.now.place.instance }
+    ensures { Helps pass.old pass.new }
+{
+    match task.reduce(alloc) {
+        Err((_, refused)) => Err(refused),
+        Ok(remainder) => {
+            commit(host, rt, pass, remainder);
+            Ok(())
+        }
+    }
+}

@@ -1,0 +1,5 @@
+pub mod Chains
+pub mod Turns
+pub mod Counts
+pub mod Scripts
+pub mod Arrays

@@ -1,0 +1,4 @@
+pub mod OneReport
+pub mod Floors
+pub mod Worked
+pub mod Sessions

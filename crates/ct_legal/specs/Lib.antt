@@ -1,0 +1,5 @@
+pub mod Cases
+pub mod Scripts
+pub mod Legal
+pub mod Laws
+pub mod Sessions

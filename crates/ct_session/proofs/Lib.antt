@@ -1,0 +1,5 @@
+pub mod Pinned
+pub mod Reached
+pub mod Shown
+pub mod Parts
+pub mod Words

@@ -1,0 +1,72 @@
+//! The loop of a worker.
+ghost use Rattle.std.specs.Prelude.{◌≡◌, ◌+◌, ◌≤◌, ℕ, IfOk, IfErr, OnOk, OnErr};
+ghost use Rattle.ct_vectors.specs.declared.limits.TheConstants.{GRADE_LIMIT};
+ghost use Rattle.ct_version.specs.Desks.{IsHelp, IsStop};
+ghost use Rattle.ct_book.specs.Benches.{desk_place};
+
+use ct_book::{Bench, Step, Task};
+use ct_version::{Gate, Helped, Stop};
+use std::alloc::{AllocError, Global};
+use std::sync::Wait;
+
+/// Takes steps of the bench until a version covers the target, or the limit on the number of moves is found to stand
+/// before it; what is handed out it reduces and commits. Before its step t, from 0, it passes the gate as `who`.
+///
+/// It holds nothing of the bench while it reduces. After want of memory the steps that were made stand; a job that was
+/// handed out and isn't committed waits for another worker. It may wait for others.
+pub fn work<R: Wait, B: Bench, G: Gate>(
+    rt: &R,
+    alloc: Global,
+    bench: &mut B,
+    gate: &G,
+    who: u32,
+    target: u64,
+) -> Result<Helped, Stop>
+    requires { target ≤ GRADE_LIMIT }
+    ensures home { B.home bench.new ≡ B.home bench.old }
+    ensures loan { B.loan bench.new ≡ B.loan bench.old }
+    ensures place { B.place bench.new ≡ B.place bench.old }
+    ensures count { B.count bench.old ≤ B.count bench.new }
+    ensures ok { IfOk result (IsHelp (desk_place (B.place bench.old)) target) }
+    ensures stop { IfErr result (IsStop (desk_place (B.place bench.old)) target) }
+{
+    let mut turn: u64 = 0;
+    for _ in rt.forever() {
+        gate.before(rt, who, turn);
+        match bench.step(rt, alloc, target) {
+            Err(_) => return Err(Stop::Memory),
+            Ok(Step::Reached(helped)) => return Ok(helped),
+            Ok(Step::Full(mark)) => return Err(Stop::Full(mark)),
+            Ok(Step::Published(_version)) => {}
+            Ok(Step::Reduce(task)) => {
+                if reduce_and_commit(rt, alloc, bench, task).is_err() {
+                    return Err(Stop::Memory);
+                }
+            }
+        }
+        turn = turn.saturating_add(1);
+    }
+    unreachable!()
+}
+
+// Reduces a task, with no lock, and commits what it leaves.
+fn reduce_and_commit<R: Wait, B: Bench>(
+    rt: &R,
+    alloc: Global,
+    bench: &mut B,
+    task: Task,
+) -> Result<(), AllocError>
+    requires { task.version.instance ≡ (B.place bench.old).instance }
+    ensures home { B.home bench.new ≡ B.home bench.old }
+    ensures loan { B.loan bench.new ≡ B.loan bench.old }
+    ensures place { B.place bench.new ≡ B.place bench.old }
+    ensures count { B.count bench.old ≤ B.count bench.new }
+{
+    match task.reduce(alloc) {
+        Err((_, refused)) => Err(refused),
+        Ok(remainder) => {
+            bench.commit(rt, remainder);
+            Ok(())
+        }
+    }
+}

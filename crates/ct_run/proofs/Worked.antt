@@ -13,9 +13,7 @@ use Rattle.ct_run.specs.Forms.{instance_file, session_file}
 use Rattle.ct_run.specs.declared.status.Status.TheVariants.{Done, Usage, BadInstance, BadSessions, BadLedger, LedgerRefused, Full}
 use Rattle.ct_text.specs.Numbers.{natural_of}
 use Rattle.ct_words.specs.Parts.{parts_of}
-use Rattle.ct_words.specs.Table.{commands}
-use Rattle.ct_words.specs.Said.{places_of, said_of}
-use Rattle.ct_run.proofs.Told.{no_command}
+use Rattle.ct_words.specs.Said.{places_of}
 use Rattle.ct_run.specs.Words.{Command, answer, certify, check, command_of}
 use Rattle.ct_instance.specs.Reach.{full_grade_up_to}
 use Rattle.ct_ledger.specs.Parts.{LedgerParts}
@@ -96,6 +94,3 @@ usage_only : (command : Option Command) (told : List ℕ → Told) (old new : Op
 usage_only None told old new wrote = refl
 usage_only (Some command) told old new wrote =
     absurd (of_bytes (told (instance_name command)) _ ⊥ (λ bytes. no_usage (instance_file bytes) command told old new) wrote)
-
-usage_words : (words : List (List ℕ)) → command_of words ≡ None → said_of commands words ≡ None
-usage_words = no_command

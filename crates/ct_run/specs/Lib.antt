@@ -9,3 +9,4 @@ pub mod Forms
 pub mod Plan
 pub mod Running
 pub mod Stopping
+pub mod Laws

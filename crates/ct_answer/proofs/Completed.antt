@@ -1,5 +1,5 @@
 -- The version of a book that was completed from its beginning.
-use Rattle.std.proofs.Common.{◌≡◌, ℕ, ◌<◌, Bool, true, false, [], refl, sym, ap, subst, ◌∙◌, arith}
+use Rattle.std.proofs.Common.{◌≡◌, ℕ, Bool, true, false, [], refl, sym, ap, subst, ◌∙◌, arith}
 use Rattle.std.specs.Arc.{arc_value}
 use Rattle.ct_instance.specs.Instance.{Problem, IsInstance}
 use Rattle.ct_instance.specs.TestSet.{test_list}

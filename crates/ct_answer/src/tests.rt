@@ -2,11 +2,14 @@
 ghost use Rattle.std.specs.Prelude.{◌≤◌, All};
 ghost use Rattle.ct_vectors.specs.declared.limits.TheConstants.{RIGHT_LIMIT};
 ghost use Rattle.ct_instance.specs.Instance.{IsRight};
-ghost use Rattle.ct_input.specs.Script.{IsRequest};
+ghost use Rattle.ct_input.specs.Script.{IsRequest, IsPhase, IsScript};
+ghost use Rattle.std.specs.Arc.{arc_value};
 
 use crate::{Extent, Options, answer, answer_counted};
-use ct_input::{Request, read_instance, read_sessions};
+use ct_input::{Phase, Request, Script, read_instance, read_sessions};
 use ct_instance::Instance;
+use ct_point::Seq;
+use ct_report::PhaseReport;
 use ct_session::Line;
 use ct_slow::least_by_listing;
 use ct_vectors::limits::MOVE_LIMIT;
@@ -279,25 +282,65 @@ fn moves_at_the_end(rt: HostRuntime) -> Result<(), Fail> {
     Ok(())
 }
 
-// The number of requests of the first session of the first phase, where all are answered so.
-fn right_answers(alloc: Global, instance: &str, sessions: &str) -> Option<usize> {
+// The same of each session.
+fn right_sessions(
+    alloc: Global,
+    inst: &Instance,
+    sessions: &[Seq<Request>],
+    told: &[Seq<Line>],
+) -> Result<bool, AllocError>
+    requires { All (λ requests. All (IsRequest inst.now.rows) requests) sessions.now }
+{
+    for (requests, lines) in sessions.iter().zip(told) {
+        if !are_right(alloc, inst, requests.as_slice(), lines.as_slice())? {
+            return Ok(false);
+        }
+    }
+    Ok(sessions.len() == told.len())
+}
+
+// The same of each phase.
+fn right_phases(
+    alloc: Global,
+    inst: &Instance,
+    phases: &[Phase],
+    told: &[PhaseReport],
+) -> Result<bool, AllocError>
+    requires { All (IsPhase inst.now.rows) phases.now }
+{
+    for (phase, report) in phases.iter().zip(told) {
+        if !right_sessions(
+            alloc,
+            inst,
+            phase.sessions.as_slice(),
+            report.sessions.as_slice(),
+        )? {
+            return Ok(false);
+        }
+    }
+    Ok(phases.len() == told.len())
+}
+
+// Whether all requests of the script are answered so.
+fn right_report(alloc: Global, inst: &Arc<Instance>, script: &Script) -> Option<bool>
+    requires { IsScript (arc_value inst.now).rows script.now }
+{
+    let report = answer(alloc, Arc::try_clone(inst).ok()?, script, PLAIN).ok()?;
+    right_phases(
+        alloc,
+        inst,
+        script.phases.as_slice(),
+        report.phases.as_slice(),
+    )
+    .ok()
+}
+
+// The same of the texts of an instance and a script.
+fn right_answers(alloc: Global, instance: &str, sessions: &str) -> Option<bool> {
     let inst = read_instance(alloc, instance.as_bytes()).ok()?;
     let script = read_sessions(alloc, inst.rows(), sessions.as_bytes()).ok()?;
     let shared = Arc::new(alloc, inst).ok()?;
-    let report = answer(alloc, Arc::try_clone(&shared).ok()?, &script, PLAIN).ok()?;
-    let phase = script.phases.as_slice().first()?;
-    let requests = phase.sessions.as_slice().first()?;
-    let lines = report
-        .phases
-        .as_slice()
-        .first()?
-        .sessions
-        .as_slice()
-        .first()?;
-    if !are_right(alloc, &shared, requests.as_slice(), lines.as_slice()).ok()? {
-        return None;
-    }
-    Some(requests.as_slice().len())
+    right_report(alloc, &shared, &script)
 }
 
 #[test]
@@ -308,18 +351,18 @@ fn answers_beside_a_listing(rt: HostRuntime) -> Result<(), Fail> {
         one.push_str(format!(in alloc; " solve {b}")?.as_str())?;
     }
     one.push_str(" end")?;
-    assert!(rt; right_answers(alloc, K, one.as_str()) == Some(61));
+    assert!(rt; right_answers(alloc, K, one.as_str()) == Some(true));
     let mut two = String::from_str(alloc, "sessions 1 phase 0 session")?;
     for b in 0..36u64 {
         two.push_str(format!(in alloc; " ask {} {}", b / 6, b % 6)?.as_str())?;
     }
     two.push_str(" end")?;
-    assert!(rt; right_answers(alloc, TWO_ROWS, two.as_str()) == Some(36));
+    assert!(rt; right_answers(alloc, TWO_ROWS, two.as_str()) == Some(true));
     let mut three = String::from_str(alloc, "sessions 1 phase 0 session")?;
     for b in 0..27u64 {
         three.push_str(format!(in alloc; " solve {} {} {}", b / 9, b / 3 % 3, b % 3)?.as_str())?;
     }
     three.push_str(" end")?;
-    assert!(rt; right_answers(alloc, THREE_ROWS, three.as_str()) == Some(27));
+    assert!(rt; right_answers(alloc, THREE_ROWS, three.as_str()) == Some(true));
     Ok(())
 }

@@ -1,9 +1,10 @@
 -- The definitions on worked reports, by computation: two coins of 3 and 5 at cost 2 and 3.
-use Rattle.std.proofs.Common.{ℕ, pos, true, false, List, [], ◌∷◌, Some, None, refl, lit≤}
+use Rattle.std.proofs.Common.{ℕ, pos, ◌≡◌, true, false, List, [], ◌∷◌, Some, None, refl, lit≤, ◌≤◌, arith}
 use Rattle.ct_instance.specs.Instance.{Problem}
 use Rattle.ct_instance.specs.Fiber.{fiber_of, least_of}
 use Rattle.ct_instance.specs.TestSet.{lists_of, test_moves_at, test_list}
 use Rattle.ct_instance.specs.Jobs.{all_jobs}
+use Rattle.ct_instance.specs.Walk.{ends}
 use Rattle.ct_instance.specs.Versions.{level_after, level_of, version_list}
 use Rattle.ct_instance.specs.Reach.{first_version_from, full_grade_up_to, reach_of}
 use Rattle.ct_version.specs.declared.answers.Answer.TheVariants.{Optimum}
@@ -52,3 +53,30 @@ answered = ((((refl, tt), ((refl, tt), ((refl, tt), tt))), tt), refl, tt)
 full : IsLegalAnswered (plain_case coins 2 false true) (script_of (Solve (5 ∷ []) ∷ Solve (6 ∷ []) ∷ [])) (report_of (optimum_at 0 1 3 ∷ Full 6 ∷ []) 5)
 unfolding reach_of full_grade_up_to first_version_from version_list level_of level_after test_list test_moves_at lists_of least_of fiber_of all_jobs
 full = ((((refl, tt), (refl, tt)), tt), refl, tt)
+
+-- ---- what isn't legal
+
+same_grade : (g h : ℕ) → Full g ≡ Full h → g ≡ h
+same_grade g h same = cc
+
+-- full one grade late
+late_full : IsLegalAnswered (plain_case coins 2 false true) (script_of (Solve (6 ∷ []) ∷ [])) (report_of (Full 7 ∷ []) 5) → ⊥
+unfolding reach_of full_grade_up_to first_version_from version_list level_of level_after test_list test_moves_at lists_of least_of fiber_of all_jobs
+late_full legal = let late : 7 ≡ 6 = same_grade 7 6 ((legal.0).0).0 in absurd (omega (arith, late))
+
+-- not yet below what the floor reaches
+low_level : IsShownLevel (plain_case coins 4096 false true) 8 0 (10 ∷ []) 7 → ⊥
+unfolding reach_of full_grade_up_to first_version_from version_list level_of level_after test_list test_moves_at lists_of least_of fiber_of all_jobs
+low_level shown = let reached : 9 ≤ 7 = shown.reached in absurd (omega (arith, reached))
+
+-- an answer without the walk that is asked for
+no_walk : IsLegalAnswered (plain_case coins 4096 true false) (record { phases = record { target = 0; sessions = (Solve (0 ∷ []) ∷ []) ∷ [] } ∷ [] })
+    (record { phases = record { sessions = (optimum_at 0 0 0 ∷ []) ∷ []; level = None } ∷ [] }) → ⊥
+unfolding full_grade_up_to test_list test_moves_at lists_of least_of fiber_of
+no_walk legal = absurd (((legal.0).0).0).1
+
+-- the walk of 0 has no step
+walk_of_zero : IsLegalAnswered (plain_case coins 4096 true false) (record { phases = record { target = 0; sessions = (Solve (0 ∷ []) ∷ []) ∷ [] } ∷ [] })
+    (record { phases = record { sessions = (Answered (Optimum (0 ∷ 0 ∷ []) (pos 0 ∷ [])) (Some []) ∷ []) ∷ []; level = None } ∷ [] })
+unfolding full_grade_up_to test_list test_moves_at lists_of least_of fiber_of
+walk_of_zero = ((((refl, ends (0 ∷ 0 ∷ 0 ∷ []) refl), tt), tt), tt, tt)

@@ -1,5 +1,5 @@
 -- What is said by a row of the table is a command.
-use Rattle.std.proofs.Common.{◌≡◌, ℕ, ◌==◌, if◌then◌else◌, Bool, true, false, List, [], ◌∷◌, length, map, find, option_map, Option, Some, None, refl, sym, subst, ap, ◌∙◌, codes}
+use Rattle.std.proofs.Common.{◌≡◌, ℕ, ◌==◌, if◌then◌else◌, Bool, true, false, List, [], ◌∷◌, length, find, option_map, Option, Some, None, refl, sym, subst, ap, ◌∙◌, codes}
 use Rattle.std.specs.List.{AllByRecursion, list_any}
 use Rattle.std.specs.Str.{bytes_eq}
 use Rattle.ct_words.specs.declared.table.Bounds.{Bounds}
@@ -115,3 +115,6 @@ no_command words none = by_said (said_of commands words) refl none
     by_said (Some said) is none =
         let made = all_said words said is in
         let apart : None ≡ Some made.0 = sym none ∙ made.1 in absurd (cc)
+
+pub no_command_back : (words : List (List ℕ)) → said_of commands words ≡ None → command_of words ≡ None
+no_command_back words none = ap (λ (o : Option WordsSaid). o >>= λ said. as_command said.command said.places said.given) none

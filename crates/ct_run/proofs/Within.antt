@@ -1,5 +1,5 @@
 -- The numbers that words say are within the bounds of the table.
-use Rattle.std.proofs.Common.{◌≡◌, ℕ, ◌≤◌, ◌==◌, ◌||◌, nat_lt, nat_le, not, if◌then◌else◌, Bool, true, false, cond, List, [], ◌∷◌, length, map, take, drop, find, is_some, unwrap_or, option_map, Option, Some, None, Result, Ok, Err, refl, sym, subst, ap, ◌∙◌, leb-true, ltb-false, codes, arith}
+use Rattle.std.proofs.Common.{◌≡◌, ℕ, ◌≤◌, ◌==◌, ◌||◌, nat_lt, nat_le, not, if◌then◌else◌, Bool, true, false, cond, List, [], ◌∷◌, length, take, drop, find, is_some, unwrap_or, option_map, Option, Some, None, Result, Ok, Err, refl, sym, subst, ap, ◌∙◌, leb-true, ltb-false, codes, arith}
 use Rattle.std.specs.List.{AllByRecursion, list_any}
 use Rattle.std.specs.Str.{bytes_eq}
 use Rattle.std.proofs.lemmas.Slice.Eq.{bytes_eq-Decides}

@@ -13,9 +13,7 @@ use Rattle.ct_run.specs.Forms.{instance_file, session_file}
 use Rattle.ct_run.specs.declared.status.Status.TheVariants.{Done, Usage, BadInstance, BadSessions, BadLedger, LedgerRefused, Full}
 use Rattle.ct_text.specs.Numbers.{natural_of}
 use Rattle.ct_words.specs.Parts.{parts_of}
-use Rattle.ct_words.specs.Table.{commands}
-use Rattle.ct_words.specs.Said.{places_of, said_of}
-use Rattle.ct_run.proofs.Told.{no_command}
+use Rattle.ct_words.specs.Said.{places_of}
 use Rattle.ct_run.specs.Words.{Work, answer, certify, check, Command, on, make, serve, command_of}
 use Rattle.ct_instance.specs.Reach.{full_grade_up_to}
 use Rattle.ct_ledger.specs.Parts.{LedgerParts}
@@ -110,6 +108,3 @@ usage_only (Some (on instance work)) told old new wrote =
     absurd (of_bytes (told instance) _ ⊥ (λ bytes. no_usage (instance_file bytes) work told old new) wrote)
 usage_only (Some (make number)) told old new wrote = let no : Usage ≡ Done = wrote.1.0.0 in absurd (cc)
 usage_only (Some (serve instance sessions workers walks levels moves)) told old new wrote = refl
-
-usage_words : (words : List (List ℕ)) → command_of words ≡ None → said_of commands words ≡ None
-usage_words = no_command

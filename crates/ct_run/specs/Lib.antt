@@ -10,3 +10,4 @@ pub mod Forms
 pub mod Plan
 pub mod Running
 pub mod Stopping
+pub mod Laws

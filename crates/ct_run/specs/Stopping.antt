@@ -1,5 +1,5 @@
 -- How a run went up to its ending, or up to what stopped it before it had one.
-use Rattle.std.specs.Prelude.{◌≡◌, ℕ, ⊤, List, Result, Ok, Err}
+use Rattle.std.specs.Prelude.{ℕ, ⊤, List, Result, Ok, Err}
 use Rattle.ct_outside.specs.Faults.{Rose}
 use Rattle.ct_outside.specs.Shelf.{Told}
 use Rattle.ct_run.specs.declared.status.Status.{Status}

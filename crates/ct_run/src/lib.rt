@@ -10,6 +10,7 @@
 mod certifying;
 mod checking;
 mod ending;
+pub mod laws;
 #[cfg(test)]
 mod ledger_tests;
 mod making;

@@ -1,10 +1,10 @@
 use Rattle.std.proofs.Common.{Err, subst, arith}
 use Rattle.std.specs.Arc.{arc_value}
+use Rattle.ct_lines.specs.declared.stop.TextStop.{TextStop}
 use Rattle.ct_lines.specs.FaultLine.{IsFaultLine}
+use Rattle.ct_lines.specs.Stops.{AtFault}
 use Rattle.ct_ledger.specs.Parts.{LedgerParts}
 use Rattle.ct_ledger.specs.LedgerText.{IsLedgerText}
-use Rattle.ct_ledger.specs.declared.stop.LedgerStop.{LedgerStop}
-use Rattle.ct_ledger.specs.Stops.{AtFault}
 use Rattle.ct_run.proofs.LedgerFiles.{faulty_checked, weighed_checked}
 use Rattle.ct_run.proofs.checking.check_ending.Goals as goal
 
@@ -16,5 +16,5 @@ returns-in-Ok c =
 pub returns-in-Err-Fault : goal.returns-in-Err-Fault
 returns-in-Err-Fault c =
     faulty_checked (arc_value c.args.inst.now) c.args.bytes.now c.in-Err-Fault.line c.bad_ledger_ending.result (omega (arith, c.if-bytes-gt-LEDGER_FILE_LIMIT.false))
-    (subst (λ (s : LedgerStop). AtFault {X = LedgerParts} (IsFaultLine IsLedgerText c.args.bytes.now) (Err s)) c.in-Err-Fault.field-0-is c.in-Err-Fault.ensures.fault)
+    (subst (λ (s : TextStop). AtFault {X = LedgerParts} (IsFaultLine IsLedgerText c.args.bytes.now) (Err s)) c.in-Err-Fault.field-0-is c.in-Err-Fault.ensures.fault)
     c.bad_ledger_ending.ensures.status c.bad_ledger_ending.ensures.text

@@ -1,4 +1,4 @@
-use Rattle.std.proofs.Common.{◌≡◌, ◌+◌, ◌∙◌, ap, sym, subst, inl, inr, Ok, ℕ, List, [], ◌∷◌, take}
+use Rattle.std.proofs.Common.{◌≡◌, ◌+◌, ◌∙◌, subst, inl, inr, Ok, ℕ, List, [], ◌∷◌, take}
 use Rattle.std.specs.Arc.{arc_value}
 use Rattle.ct_input.specs.declared.limits.TheConstants.{LEDGER_FILE_LIMIT}
 use Rattle.ct_run.specs.Outcome.{checked}

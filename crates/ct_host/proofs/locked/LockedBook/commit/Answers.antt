@@ -16,6 +16,6 @@ returns c =
       place = s.place;
       answer = s.answer;
       grows = s.grows;
-      fits = fits_here after c.args.by c.entries-entries.result _ (omega (arith, passes, c.requires.pass)) c.entries-entries.ensures c.entries-entries.type_inv;
+      fits = fits_here after c.args.by c.entries-entries.result _ (omega (arith, passes, c.requires.pass)) c.entries-entries.ensures.entries c.entries-entries.type_inv;
       count = s.count;
     }

@@ -9,4 +9,4 @@ entries-requires c = subst (λ (b : BookSeen). c.args.number < b.passes) (sym c.
 pub returns : goal.returns
 returns c =
     let own : c.args.number < c.args.self.now.passes = (let e = length_counts c.args.self.now in omega (arith, e, c.requires.known)) in
-    c.entries.ensures ∙ (sym (count_at c.self.inside.book c.args.number (subst (λ (b : BookSeen). c.args.number < b.passes) (sym c.self.view_is) own)) ∙ ap (λ (b : BookSeen). slice_index (counts_of b) c.args.number) c.self.view_is)
+    c.entries.ensures.entries ∙ (sym (count_at c.self.inside.book c.args.number (subst (λ (b : BookSeen). c.args.number < b.passes) (sym c.self.view_is) own)) ∙ ap (λ (b : BookSeen). slice_index (counts_of b) c.args.number) c.self.view_is)

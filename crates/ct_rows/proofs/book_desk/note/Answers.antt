@@ -1,6 +1,6 @@
 use Rattle.std.proofs.Common.{rules, ◌≡◌, ◌++◌, [], ◌∷◌}
 use Rattle.ct_session.proofs.Words.{latest_after, one_taken}
-use Rattle.ct_session_tests.proofs.book_desk.note.Goals as goal
+use Rattle.ct_rows.proofs.book_desk.note.Goals as goal
 
 pub returns-clause-one_take : goal.returns-clause-one_take
 returns-clause-one_take g c =

@@ -1,0 +1,36 @@
+-- What a run comes to, exactly. Each statement is the contract of a function in the module `laws`.
+use Rattle.std.specs.Prelude.{ℕ, ◌≡◌, ◌≤◌, ◌<◌, ◌⊎◌, ◌↔◌, List, None, length}
+use Rattle.ct_input.specs.declared.limits.TheConstants.{LEDGER_FILE_LIMIT}
+use Rattle.ct_instance.specs.Instance.{Problem}
+use Rattle.ct_instance.specs.Versions.{IsFullGrade}
+use Rattle.ct_instance.specs.Reach.{full_grade_up_to}
+use Rattle.ct_ledger.specs.Parts.{LedgerParts, IsLedger}
+use Rattle.ct_ledger.specs.LedgerText.{ledger_text, IsLedgerText}
+use Rattle.ct_checker.specs.Checking.{verdict_of}
+use Rattle.ct_words.specs.Table.{commands}
+use Rattle.ct_words.specs.Said.{said_of}
+use Rattle.ct_run.specs.declared.status.Status.{Status}
+use Rattle.ct_run.specs.declared.status.Status.TheVariants.{BadLedger}
+use Rattle.ct_run.specs.Words.{command_of}
+use Rattle.ct_run.specs.Checked.{IsVerdictEnding, IsChecked}
+use Rattle.ct_run.specs.Outcome.{full}
+use Rattle.ct_run.specs.Plan.{ledger_or_full}
+
+-- the file of a ledger is checked by the verdict on that ledger
+abbrev pub LedgerIsWeighed : Type 0
+LedgerIsWeighed =
+    (i : Problem) (bytes : List ℕ) (status : Status) (text : List ℕ) → IsChecked i bytes status text →
+    length bytes ≤ LEDGER_FILE_LIMIT → (l : LedgerParts) → IsLedger l → bytes ≡ ledger_text l → IsVerdictEnding i l (verdict_of i l) status text
+
+-- a file that is bad is over its limit, or the text of no ledger
+abbrev pub BadIsNoLedger : Type 0
+BadIsNoLedger =
+    (i : Problem) (bytes text : List ℕ) → IsChecked i bytes BadLedger text → (LEDGER_FILE_LIMIT < length bytes) ⊎ (IsLedgerText bytes → ⊥)
+
+-- the outcome of a grade is full at f exactly where f is the full grade and at most that grade
+abbrev pub FullIsFullGrade : Type 0
+FullIsFullGrade = (i : Problem) (limit g f : ℕ) → (ledger_or_full i g (full_grade_up_to i limit g) ≡ full f) ↔ (IsFullGrade i limit f × (f ≤ g))
+
+-- words are no command exactly where they are none by the table
+abbrev pub NoCommandByTable : Type 0
+NoCommandByTable = (words : List (List ℕ)) → (command_of words ≡ None) ↔ (said_of commands words ≡ None)

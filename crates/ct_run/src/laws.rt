@@ -1,0 +1,20 @@
+//! Laws of what a run comes to, as contracts of functions that do nothing.
+
+ghost use Rattle.ct_run.specs.Laws.{LedgerIsWeighed, BadIsNoLedger, FullIsFullGrade, NoCommandByTable};
+
+/// Where a file within its limit is the text of a ledger, its check ends by the verdict on that ledger, and where it ends
+/// as a bad ledger the file is over its limit or the text of none.
+pub fn checks_are_exact()
+    ensures ledger { LedgerIsWeighed }
+    ensures none { BadIsNoLedger }
+{}
+
+/// A certificate is refused as full exactly where the full grade is at most the grade that was asked for.
+pub fn full_is_exact()
+    ensures { FullIsFullGrade }
+{}
+
+/// Words are no command exactly where the table says so.
+pub fn words_are_exact()
+    ensures { NoCommandByTable }
+{}

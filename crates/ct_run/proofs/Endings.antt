@@ -1,5 +1,5 @@
 -- What a run up to an ending or a stop says at the top call.
-use Rattle.std.proofs.Common.{◌≡◌, ℕ, ◌≤◌, true, false, true≢false, List, [], Option, Result, Ok, Err, inl, inr, sym, ap, ◌∙◌, arith}
+use Rattle.std.proofs.Common.{◌≡◌, ℕ, ◌≤◌, true, false, true≢false, List, [], Option, Result, Ok, Err, inl, inr, refl, sym, ap, ◌∙◌, arith}
 use Rattle.std.specs.Prelude.{⊤}
 use Rattle.std.specs.Io.KnownBytes.{Appends}
 use Rattle.ct_outside.specs.Faults.{Rose}
@@ -17,7 +17,7 @@ use Rattle.ct_run.specs.declared.status.Status.TheVariants as statuses
 use Rattle.ct_run.specs.declared.stop.Stop.{Stop}
 use Rattle.ct_run.specs.declared.stop.Stop.TheVariants.{ReadFault, Memory}
 use Rattle.ct_run.specs.Outcome.{RunOutcome, usage, bad_instance, bad_sessions, answered, certified, full, checked, made, served, IsEnding, Wrote, WroteFront, is_stop, IsUnlessStopped, IsUnlessMemory}
-use Rattle.ct_run.specs.Plan.{Plan}
+use Rattle.ct_run.specs.Plan.{Plan, ends, asks}
 use Rattle.ct_run.specs.Running.{Ends, WouldEnd, ComesTo, Runs, HasReadFault, NoReadFault}
 use Rattle.ct_run.specs.Stopping.{Fits, StoppedBy, EndedBy, Ran, stop_status}
 use Rattle.ct_run.proofs.Runs.{ends-map, ends-some, would_end, would_end-all, runs-ends, runs-cause, runs-others, runs-map}
@@ -27,6 +27,11 @@ pub stopped-along : (result : Result Ending Stop) (before mid now : ℕ) → bef
 stopped-along (Ok ending) before mid now up h = h
 stopped-along (Err ReadFault) before mid now up h = omega arith
 stopped-along (Err Memory) before mid now up h = tt
+
+-- nothing was asked for
+pub stopped_at_once : (plan : Plan) (told : List ℕ → Told) (before : List ℕ → ℕ) → Ran plan told before before (Err Memory)
+stopped_at_once (ends outcome) told before = (λ name out. refl, tt)
+stopped_at_once (asks asked go) told before = inl (λ name out. refl, tt)
 
 verdict_unstopped : (i : Problem) (l : LedgerParts) (v : Verdict) (status : Status) (text : List ℕ) → IsVerdictEnding i l v status text → is_stop status ≡ false
 verdict_unstopped i l (Accepted grade moves) status text h = ap is_stop h.1.0

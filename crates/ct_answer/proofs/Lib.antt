@@ -1,2 +1,4 @@
 pub mod Pairing
+pub mod Completed
+pub mod Extents
 pub mod ToldReports

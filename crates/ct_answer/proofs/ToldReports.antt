@@ -29,6 +29,7 @@ use Rattle.ct_legal.specs.Cases.{Case, sum_of, case_reach}
 use Rattle.ct_legal.specs.Scripts.{as_solve, phase_with_solves, solved_sum, greatest, grade_after}
 use Rattle.ct_legal.specs.Legal.{low_after, AreLegalLines, AreLegalSessions, IsLevelShown, AreLegalPhases}
 use Rattle.ct_answer.specs.declared.options.Options.{Options}
+use Rattle.ct_answer.specs.Extents.{grade_upto}
 use Rattle.ct_answer.specs.Told.{case_at, AreToldLines, AreToldSessions, IsToldPhase, sums_of, sums_in}
 use Rattle.ct_answer.proofs.Pairing.{one_more}
 
@@ -86,11 +87,6 @@ pub grade_told : (p : Place) (o : Options) (grade : ℕ) (phase : Phase) →
 grade_told p o grade phase = ap (λ ns. max grade (max phase.target (greatest ns))) (solved_in p o phase.sessions)
 
 -- ---- phases
-
--- the grade that is worked for up to the end of some phases
-abbrev pub grade_upto : Case → ℕ → List Phase → ℕ
-grade_upto c grade [] = grade
-grade_upto c grade (phase ∷ phases) = grade_upto c (grade_after c grade phase) phases
 
 pub grade_pushed : (c : Case) (grade : ℕ) (phases : List Phase) (phase : Phase) → grade_upto c grade (phases ++ phase ∷ []) ≡ grade_after c (grade_upto c grade phases) phase
 grade_pushed c grade [] phase = refl

@@ -94,8 +94,8 @@ fn phase_of(
     Ok(PhaseReport { sessions, level })
 }
 
-// The report of each phase.
-fn phases_of(
+/// The report of each phase.
+pub fn phases_of(
     alloc: Global,
     solver: &mut Solver,
     phases: &[Phase],

@@ -6,11 +6,15 @@
 #![tactic(auto)]
 
 mod answering;
+mod counting;
+mod extent;
 mod grades;
 mod options;
 mod solver;
 
 pub use answering::answer;
+pub use counting::answer_counted;
+pub use extent::Extent;
 pub use options::Options;
 
 #[cfg(test)]

@@ -8,7 +8,9 @@ ghost use Rattle.ct_instance.specs.Versions.{Covers, level_of};
 ghost use Rattle.ct_instance.specs.Reach.{reach_of};
 ghost use Rattle.ct_version.specs.Editions.{level_seen};
 ghost use Rattle.ct_session.specs.Lines.{IsAnsweredLine, IsSolveLine};
+ghost use Rattle.ct_answer.specs.Extents.{IsExtent};
 
+use crate::extent::Extent;
 use ct_book::Book;
 use ct_instance::Instance;
 use ct_order::sum;
@@ -49,6 +51,35 @@ impl Solver {
     {
         let book = Book::open(alloc, inst, limit, 1)?;
         Ok(Solver { book })
+    }
+
+    /// A solver that has its moves for a grade, or up to the limit on their number, with how far they come.
+    pub fn open_at(
+        alloc: Global,
+        inst: Arc<Instance>,
+        limit: u32,
+        grade: u64,
+    ) -> Result<(Solver, Extent), AllocError>
+        requires some { 1 ≤ limit }
+        requires most { limit ≤ MOVE_LIMIT }
+        requires grade { grade ≤ GRADE_LIMIT }
+        ensures place { IfOk result (λ r. r.0 ≡ record { instance = arc_value inst; limit = limit }) }
+        ensures extent { IfOk result (λ r. IsExtent (arc_value inst) limit grade r.1) }
+    {
+        let mut book = Book::open(alloc, inst, limit, 1)?;
+        match book.complete(alloc, 0, grade) {
+            Ok(helped) => {
+                let moves = helped.version.moves().len();
+                let level = helped.level;
+                Ok((Solver { book }, Extent { moves, level }))
+            }
+            Err(Stop::Full(mark)) => {
+                let moves = mark.version.moves().len();
+                let level = Finished::Upto(mark.grade.saturating_sub(1));
+                Ok((Solver { book }, Extent { moves, level }))
+            }
+            Err(Stop::Memory) => Err(AllocError),
+        }
     }
 
     /// The number of rows of the instance.

@@ -5,7 +5,7 @@ ghost use Rattle.ct_instance.specs.Instance.{IsRight};
 ghost use Rattle.ct_input.specs.Script.{IsRequest, IsPhase, IsScript};
 ghost use Rattle.std.specs.Arc.{arc_value};
 
-use crate::{Options, answer};
+use crate::{Extent, Options, answer, answer_counted};
 use ct_input::{Phase, Request, Script, read_instance, read_sessions};
 use ct_instance::Instance;
 use ct_point::Seq;
@@ -13,7 +13,7 @@ use ct_report::PhaseReport;
 use ct_session::Line;
 use ct_slow::least_by_listing;
 use ct_vectors::limits::MOVE_LIMIT;
-use ct_version::Answer;
+use ct_version::{Answer, Finished};
 use std::alloc::{AllocError, Global};
 use std::sync::Arc;
 use std::test::Fail;
@@ -230,6 +230,56 @@ fn are_right(
         }
     }
     Ok(requests.len() == lines.len())
+}
+
+// How far the moves for K come at the end of a script, by at most so many moves.
+fn extent_of(alloc: Global, sessions: &str, limit: u32) -> Option<Extent> {
+    if limit < 1 || limit as usize > MOVE_LIMIT {
+        return None;
+    }
+    let inst = read_instance(alloc, K.as_bytes()).ok()?;
+    let script = read_sessions(alloc, inst.rows(), sessions.as_bytes()).ok()?;
+    let options = Options { limit, ..PLAIN };
+    let shared = Arc::new(alloc, inst).ok()?;
+    let (report, extent) = answer_counted(alloc, shared, &script, options).ok()?;
+    if report.phases.as_slice().len() != script.phases.as_slice().len() {
+        return None;
+    }
+    Some(extent)
+}
+
+#[test]
+fn moves_at_the_end(rt: HostRuntime) -> Result<(), Fail> {
+    for (sessions, limit, moves, level) in [
+        (
+            "sessions 1 phase 0 session solve 3 ask 15 end",
+            4096,
+            5,
+            Finished::Upto(15),
+        ),
+        (
+            "sessions 1 phase 9 session solve 3 end",
+            4096,
+            3,
+            Finished::Upto(9),
+        ),
+        (
+            "sessions 1 phase 21 phase 0 end",
+            4096,
+            5,
+            Finished::All,
+        ),
+        (
+            "sessions 1 phase 0 session solve 6 end",
+            2,
+            2,
+            Finished::Upto(5),
+        ),
+        ("sessions 1 end", 1, 0, Finished::Upto(2)),
+    ] {
+        assert!(rt; extent_of(rt.alloc(), sessions, limit) == Some(Extent { moves, level }), "{sessions}");
+    }
+    Ok(())
 }
 
 // The same of each session.

@@ -16,7 +16,7 @@ use Rattle.ct_run.specs.declared.status.Status.{Status}
 use Rattle.ct_run.specs.declared.status.Status.TheVariants as statuses
 use Rattle.ct_run.specs.declared.stop.Stop.{Stop}
 use Rattle.ct_run.specs.declared.stop.Stop.TheVariants.{ReadFault, Memory}
-use Rattle.ct_run.specs.Outcome.{RunOutcome, usage, bad_instance, bad_sessions, answered, certified, full, checked, IsEnding, Wrote, WroteFront, is_stop, IsUnlessStopped, IsUnlessMemory}
+use Rattle.ct_run.specs.Outcome.{RunOutcome, usage, bad_instance, bad_sessions, answered, certified, full, checked, made, served, IsEnding, Wrote, WroteFront, is_stop, IsUnlessStopped, IsUnlessMemory}
 use Rattle.ct_run.specs.Plan.{Plan}
 use Rattle.ct_run.specs.Running.{Ends, WouldEnd, ComesTo, Runs, HasReadFault, NoReadFault}
 use Rattle.ct_run.specs.Stopping.{Fits, StoppedBy, EndedBy, Ran, stop_status}
@@ -45,6 +45,8 @@ ending_unstopped (bad_sessions fault) status text h = ap is_stop h.0
 ending_unstopped (answered c script) status text h = ap is_stop h.0
 ending_unstopped (certified i grade) status text h = ap is_stop h.0
 ending_unstopped (full grade) status text h = ap is_stop h.0
+ending_unstopped (made number) status text h = ap is_stop h.0
+ending_unstopped (served c script) status text h = ap is_stop h.0
 ending_unstopped (checked i bytes) status text h = checked_unstopped i bytes status text h
 
 module _ (plan : Plan) (told : List ℕ → Told) (before now : List ℕ → ℕ) where

@@ -4,5 +4,6 @@ pub mod Runs
 pub mod Endings
 pub mod TooLong
 pub mod LedgerFiles
-pub mod Completed
+pub mod FullGrades
+pub mod Summaries
 mod Worked

@@ -7,7 +7,7 @@ use Rattle.ct_words.specs.Table.{WordCommand, commands}
 use Rattle.ct_words.specs.Role.{WordGiven, number_in, ◌>>=◌}
 use Rattle.ct_words.specs.Parts.{WordParts, parts_of, are_distinct}
 use Rattle.ct_words.specs.Said.{WordPlace, text, number, WordsSaid, places_of, told_of, named_of, said_of}
-use Rattle.ct_run.specs.Words.{Command, answer, certify, check, limit_in, two_texts, text_and_number, as_command, command_of}
+use Rattle.ct_run.specs.Words.{answer, certify, check, Command, on, make, serve, limit_in, workers_in, two_texts, text_and_number, one_number, as_command, command_of}
 use Rattle.ct_words.specs.Parts.{has_name}
 use Rattle.ct_run.proofs.Within.{some_is, map_is, find_has, said_by_row}
 
@@ -36,16 +36,41 @@ number_said bounds (a ∷ b ∷ c ∷ words) places is = by_number (number_in bo
     by_number None is = absurd (cc)
     by_number (Some n) is = absurd (cc)
 
+number_alone : (bounds : Bounds) (words : List (List ℕ)) (places : List WordPlace) → places_of (Some bounds ∷ []) words ≡ Some places → (n : ℕ) × (one_number places ≡ Some n)
+unfolding places_of
+number_alone bounds [] places is = absurd (cc)
+number_alone bounds (a ∷ []) places is = by_number (number_in bounds a) is
+  where
+    by_number : (o : Option ℕ) → (option_map number o >>= λ place. option_map (λ ps. place ∷ ps) (Some [])) ≡ Some places → (n : ℕ) × (one_number places ≡ Some n)
+    by_number None is = absurd (cc)
+    by_number (Some n) is = subst (λ (ps : List WordPlace). (k : ℕ) × (one_number ps ≡ Some k)) (some_is is) (n, refl)
+number_alone bounds (a ∷ b ∷ words) places is = by_number (number_in bounds a) is
+  where
+    by_number : (o : Option ℕ) → (option_map number o >>= λ place. option_map (λ ps. place ∷ ps) None) ≡ Some places → (n : ℕ) × (one_number places ≡ Some n)
+    by_number None is = absurd (cc)
+    by_number (Some n) is = absurd (cc)
+
 -- the places of a row make a command
 abbrev IsRowSaid : WordCommand → Type 0
 IsRowSaid row = (words : List (List ℕ)) (places : List WordPlace) (given : List WordGiven) → places_of row.places words ≡ Some places → IsSaid (as_command row.command places given)
 
 rows_said : AllByRecursion IsRowSaid commands
 rows_said = (
-  (λ words places given is. let x = two_said words places is in (_, ap (option_map (λ names. answer names.0 names.1 (has_name (codes "walks") given) (has_name (codes "levels") given) (limit_in given))) x.1)),
+  (λ words places given is. let x = two_said words places is in (_, ap (option_map (λ names. on names.0 (answer names.1 (has_name (codes "walks") given) (has_name (codes "levels") given) (limit_in given)))) x.1)),
   (
-    (λ words places given is. let x = number_said _ words places is in (_, ap (option_map (λ words. certify words.0 words.1 (limit_in given))) x.1)),
-    ((λ words places given is. let x = two_said words places is in (_, ap (option_map (λ names. check names.0 names.1)) x.1)), tt),
+    (λ words places given is. let x = number_said _ words places is in (_, ap (option_map (λ words. on words.0 (certify words.1 (limit_in given)))) x.1)),
+    (
+      (λ words places given is. let x = two_said words places is in (_, ap (option_map (λ names. on names.0 (check names.1))) x.1)),
+      (
+        (λ words places given is. let x = number_alone _ words places is in (_, ap (option_map make) x.1)),
+        (
+          (λ words places given is.
+            let x = two_said words places is in
+            (_, ap (option_map (λ names. serve names.0 names.1 (workers_in given) (has_name (codes "walks") given) (has_name (codes "levels") given) (limit_in given))) x.1)),
+          tt,
+        ),
+      ),
+    ),
   ),
 )
 

@@ -1,7 +1,8 @@
 -- The numbers that words say are within the bounds of the table.
-use Rattle.std.proofs.Common.{◌≡◌, ℕ, ◌≤◌, ◌==◌, ◌||◌, nat_lt, nat_le, not, if◌then◌else◌, Bool, true, false, cond, List, [], ◌∷◌, length, take, drop, find, is_some, unwrap_or, option_map, Option, Some, None, Result, Ok, Err, refl, sym, subst, ap, ◌∙◌, leb-true, ltb-false}
+use Rattle.std.proofs.Common.{◌≡◌, ℕ, ◌≤◌, ◌==◌, ◌||◌, nat_lt, nat_le, not, if◌then◌else◌, Bool, true, false, cond, List, [], ◌∷◌, length, take, drop, find, is_some, unwrap_or, option_map, Option, Some, None, Result, Ok, Err, refl, sym, subst, ap, ◌∙◌, leb-true, ltb-false, codes, arith}
 use Rattle.std.specs.List.{AllByRecursion, list_any}
 use Rattle.std.specs.Str.{bytes_eq}
+use Rattle.std.proofs.lemmas.Slice.Eq.{bytes_eq-Decides}
 use Rattle.ct_text.specs.declared.number.NumberFault.{NumberFault}
 use Rattle.ct_text.specs.declared.number.NumberFault.TheVariants.{Spelling, Over}
 use Rattle.ct_text.specs.Numbers.{natural_of, is_natural, value_of}
@@ -12,8 +13,11 @@ use Rattle.ct_words.specs.Parts.{WordParts, with_place, with_given, joined, part
 use Rattle.ct_words.specs.Parts.{value_of as value_named}
 use Rattle.ct_words.specs.Said.{WordPlace, text, number, WordsSaid, place_of, places_of, told_of, named_of, said_of}
 use Rattle.ct_words.proofs.Loops.{parts-word}
-use Rattle.ct_vectors.specs.declared.limits.TheConstants.{GRADE_LIMIT}
-use Rattle.ct_run.specs.Words.{IsLimit, IsPlaceWithin, HasNumbersWithin, text_and_number}
+use Rattle.ct_vectors.specs.declared.limits.TheConstants.{GRADE_LIMIT, MOVE_LIMIT}
+use Rattle.ct_words.specs.declared.table.TheConstants.{WORKER_LIMIT}
+use Rattle.ct_words.specs.declared.table.CommandName.{CommandName}
+use Rattle.ct_words.specs.declared.table.CommandName.TheVariants.{Certify}
+use Rattle.ct_run.specs.Words.{IsLimit, IsNumberOf, IsPlaceWithin, IsValueOf, HasNumbersWithin, text_and_number}
 
 pub some_is : {X : Type 0} {x y : X} → Some x ≡ Some y → x ≡ y
 some_is {X} {x} {y} same = ap (λ o. unwrap_or o x) same
@@ -48,19 +52,6 @@ module _ (Q : ℕ → Type 0) where
   Lets None = Unit {0}
   Lets (Some bounds) = (n : ℕ) → bounds.low ≤ n → n ≤ bounds.high → Q n
 
-  abbrev pub HasQ : WordGiven → Type 0
-  HasQ one = (n : ℕ) → one.value ≡ Some n → Q n
-
-  abbrev LetsAsked : Option WordAsked → Type 0
-  LetsAsked None = Unit {0}
-  LetsAsked (Some asked) = Lets (Some asked.bounds)
-
-  abbrev HasRole : WordRole → Type 0
-  HasRole ends = Unit {0}
-  HasRole positional = Unit {0}
-  HasRole (says one) = HasQ one
-  HasRole (opens asked) = Lets (Some asked.bounds)
-
   in_bounds : (bounds : Bounds) (word : List ℕ) (n : ℕ) → Lets (Some bounds) → number_in bounds word ≡ Some n → Q n
   in_bounds bounds word n lets is = by_value (natural_of word bounds.high) refl is
     where
@@ -72,14 +63,54 @@ module _ (Q : ℕ → Type 0) where
       by_value (Ok k) found is = by_low k found (nat_lt k bounds.low) refl is
       by_value (Err fault) found is = absurd (cc)
 
-  number_said-has : (asked : WordAsked) (word : List ℕ) (role : WordRole) → Lets (Some asked.bounds) → number_said asked word ≡ Some role → HasRole role
+  abbrev pub PlaceHas : WordPlace → Type 0
+  PlaceHas (text word) = Unit {0}
+  PlaceHas (number n) = Q n
+
+  place-has : (wanted : Option Bounds) (word : List ℕ) (place : WordPlace) → Lets wanted → place_of wanted word ≡ Some place → PlaceHas place
+  place-has None word place lets is = subst PlaceHas (some_is is) tt
+  place-has (Some bounds) word place lets is =
+      let made = map_is number (number_in bounds word) place is in
+      subst PlaceHas made.1.1 (in_bounds bounds word made.0 lets made.1.0)
+
+  pub places-has : (wanted : List (Option Bounds)) (words : List (List ℕ)) (places : List WordPlace) → AllByRecursion Lets wanted → places_of wanted words ≡ Some places → AllByRecursion PlaceHas places
+  unfolding places_of
+  places-has [] [] places all is = subst (AllByRecursion PlaceHas) (some_is is) tt
+  places-has [] (word ∷ words) places all is = absurd (cc)
+  places-has (one ∷ wanted) [] places all is = absurd (cc)
+  places-has (one ∷ wanted) (word ∷ words) places all is =
+      by_place (λ ps e. places-has wanted words ps all.1 e) (place_of one word) refl is
+    where
+      by_place : ((ps : List WordPlace) → places_of wanted words ≡ Some ps → AllByRecursion PlaceHas ps) →
+          (o : Option WordPlace) → place_of one word ≡ o → (o >>= λ place. option_map (λ ps. place ∷ ps) (places_of wanted words)) ≡ Some places → AllByRecursion PlaceHas places
+      by_place later None found is = absurd (cc)
+      by_place later (Some place) found is =
+          let made = map_is (λ (ps : List WordPlace). place ∷ ps) (places_of wanted words) places is in
+          subst (AllByRecursion PlaceHas) made.1.1 (place-has one word place all.0 found, later made.0 made.1.0)
+
+-- of what an option's name lets its value be
+module _ (Q : List ℕ → ℕ → Type 0) where
+  abbrev pub HasQ : WordGiven → Type 0
+  HasQ one = (n : ℕ) → one.value ≡ Some n → Q one.name n
+
+  abbrev LetsAsked : Option WordAsked → Type 0
+  LetsAsked None = Unit {0}
+  LetsAsked (Some asked) = Lets (Q asked.name) (Some asked.bounds)
+
+  abbrev HasRole : WordRole → Type 0
+  HasRole ends = Unit {0}
+  HasRole positional = Unit {0}
+  HasRole (says one) = HasQ one
+  HasRole (opens asked) = Lets (Q asked.name) (Some asked.bounds)
+
+  number_said-has : (asked : WordAsked) (word : List ℕ) (role : WordRole) → Lets (Q asked.name) (Some asked.bounds) → number_said asked word ≡ Some role → HasRole role
   number_said-has asked word role lets is = by_number (number_in asked.bounds word) refl is
     where
       by_number : (o : Option ℕ) → number_in asked.bounds word ≡ o → (o >>= λ n. Some (says (record { name = asked.name; value = Some n }))) ≡ Some role → HasRole role
       by_number None found is = absurd (cc)
-      by_number (Some n) found is = subst HasRole (some_is is) (λ m same. subst Q (some_is same) (in_bounds asked.bounds word n lets found))
+      by_number (Some n) found is = subst HasRole (some_is is) (λ m same. subst (Q asked.name) (some_is same) (in_bounds (Q asked.name) asked.bounds word n lets found))
 
-  said_with-has : (name : List ℕ) (bounds : Option Bounds) (rest : List ℕ) (role : WordRole) → Lets bounds → said_with name bounds rest ≡ Some role → HasRole role
+  said_with-has : (name : List ℕ) (bounds : Option Bounds) (rest : List ℕ) (role : WordRole) → Lets (Q name) bounds → said_with name bounds rest ≡ Some role → HasRole role
   said_with-has name None [] role lets is = subst HasRole (some_is is) (λ n same. absurd (cc))
   said_with-has name None (sign ∷ value) role lets is = absurd (cc)
   said_with-has name (Some bounds) [] role lets is = subst HasRole (some_is is) lets
@@ -89,7 +120,7 @@ module _ (Q : ℕ → Type 0) where
   plain-has None word role lets is = subst HasRole (some_is is) tt
   plain-has (Some asked) word role lets is = number_said-has asked word role lets is
 
-  module _ (options : List WordOption) (all : AllByRecursion (λ row. Lets row.bounds) options) where
+  module _ (options : List WordOption) (all : AllByRecursion (λ row. Lets (Q row.name) row.bounds) options) where
     option-has : (named : List ℕ) (role : WordRole) → option_of options named ≡ Some role → HasRole role
     option-has named role is = by_row (find (λ row. bytes_eq row.name (take (name_len named) named)) options) refl is
       where
@@ -97,7 +128,7 @@ module _ (Q : ℕ → Type 0) where
         by_row None found is = absurd (cc)
         by_row (Some row) found is =
             said_with-has row.name row.bounds (drop (name_len named) named) role
-            (find_has (λ row. Lets row.bounds) (λ row. bytes_eq row.name (take (name_len named) named)) options row all found) is
+            (find_has (λ row. Lets (Q row.name) row.bounds) (λ row. bytes_eq row.name (take (name_len named) named)) options row all found) is
 
     dashed-has : (waiting : Option WordAsked) (second : ℕ) (named : List ℕ) (role : WordRole) → dashed_of options waiting second named ≡ Some role → HasRole role
     dashed-has waiting second named role is = by_tests (not (second == 45) || is_some waiting) (length named == 0) is
@@ -135,41 +166,16 @@ module _ (Q : ℕ → Type 0) where
             subst (λ (p : WordParts). AllByRecursion HasQ p.given) made.1.1 (role-has waiting word (says one) lets found, later None made.0 tt made.1.0)
         by_role later (Some (opens asked)) found is = later (Some asked) parts (role-has waiting word (opens asked) lets found) is
 
-  abbrev pub PlaceHas : WordPlace → Type 0
-  PlaceHas (text word) = Unit {0}
-  PlaceHas (number n) = Q n
-
-  place-has : (wanted : Option Bounds) (word : List ℕ) (place : WordPlace) → Lets wanted → place_of wanted word ≡ Some place → PlaceHas place
-  place-has None word place lets is = subst PlaceHas (some_is is) tt
-  place-has (Some bounds) word place lets is =
-      let made = map_is number (number_in bounds word) place is in
-      subst PlaceHas made.1.1 (in_bounds bounds word made.0 lets made.1.0)
-
-  pub places-has : (wanted : List (Option Bounds)) (words : List (List ℕ)) (places : List WordPlace) → AllByRecursion Lets wanted → places_of wanted words ≡ Some places → AllByRecursion PlaceHas places
-  unfolding places_of
-  places-has [] [] places all is = subst (AllByRecursion PlaceHas) (some_is is) tt
-  places-has [] (word ∷ words) places all is = absurd (cc)
-  places-has (one ∷ wanted) [] places all is = absurd (cc)
-  places-has (one ∷ wanted) (word ∷ words) places all is =
-      by_place (λ ps e. places-has wanted words ps all.1 e) (place_of one word) refl is
-    where
-      by_place : ((ps : List WordPlace) → places_of wanted words ≡ Some ps → AllByRecursion PlaceHas ps) →
-          (o : Option WordPlace) → place_of one word ≡ o → (o >>= λ place. option_map (λ ps. place ∷ ps) (places_of wanted words)) ≡ Some places → AllByRecursion PlaceHas places
-      by_place later None found is = absurd (cc)
-      by_place later (Some place) found is =
-          let made = map_is (λ (ps : List WordPlace). place ∷ ps) (places_of wanted words) places is in
-          subst (AllByRecursion PlaceHas) made.1.1 (place-has one word place all.0 found, later made.0 made.1.0)
-
 -- ---- the table
 
 record IsRowWithin (row : WordCommand) : Type 0 where
-  places : AllByRecursion (Lets (λ n. n ≤ GRADE_LIMIT)) row.places
-  options : AllByRecursion (λ option. Lets IsLimit option.bounds) row.options
+  places : AllByRecursion (Lets (IsNumberOf row.command)) row.places
+  options : AllByRecursion (λ option. Lets (IsValueOf option.name) option.bounds) row.options
 
-same_places : (places : List WordPlace) → AllByRecursion (PlaceHas (λ n. n ≤ GRADE_LIMIT)) places → AllByRecursion IsPlaceWithin places
-same_places [] all = tt
-same_places (text word ∷ places) all = (tt, same_places places all.1)
-same_places (number n ∷ places) all = (all.0, same_places places all.1)
+same_places : (command : CommandName) (places : List WordPlace) → AllByRecursion (PlaceHas (IsNumberOf command)) places → AllByRecursion (IsPlaceWithin command) places
+same_places command [] all = tt
+same_places command (text word ∷ places) all = (tt, same_places command places all.1)
+same_places command (number n ∷ places) all = (all.0, same_places command places all.1)
 
 -- what a row says of these places and options
 abbrev pub said_by_row : WordCommand → List WordGiven → List WordPlace → WordsSaid
@@ -184,21 +190,33 @@ told-within row words said within is = by_parts (parts_of row.options None words
     by_test parts found true is =
         let made = map_is (said_by_row row parts.given) (places_of row.places parts.places) said is in
         subst HasNumbersWithin made.1.1 (record {
-          places = same_places made.0 (places-has (λ n. n ≤ GRADE_LIMIT) row.places parts.places made.0 within.places made.1.0);
-          given = parts-has IsLimit row.options within.options None words parts tt found;
+          places = same_places row.command made.0 (places-has (IsNumberOf row.command) row.places parts.places made.0 within.places made.1.0);
+          given = parts-has IsValueOf row.options within.options None words parts tt found;
         })
 
     by_parts : (o : Option WordParts) → parts_of row.options None words ≡ o → (o >>= told_of row) ≡ Some said → HasNumbersWithin said
     by_parts None found is = absurd (cc)
     by_parts (Some parts) found is = by_test parts found (are_distinct parts.given) is
 
+moves_value : (n : ℕ) → 1 ≤ n → n ≤ MOVE_LIMIT → IsValueOf (codes "moves") n
+moves_value n low high = (λ same. (low, high), λ other. absurd (omega (arith, ap length other)))
+
+workers_value : (n : ℕ) → 0 ≤ n → n ≤ WORKER_LIMIT → IsValueOf (codes "workers") n
+workers_value n low high = (λ other. absurd (omega (arith, ap length other)), λ same. high)
+
 -- a place for a text, a flag, a number in its bounds
 rows-within : AllByRecursion IsRowWithin commands
 rows-within = (
-  record { places = (tt, (tt, tt)); options = (tt, (tt, (λ n low high. (low, high), tt))) },
+  record { places = (tt, (tt, tt)); options = (tt, (tt, (moves_value, tt))) },
   (
-    record { places = (tt, (λ n low high. high, tt)); options = (λ n low high. (low, high), tt) },
-    (record { places = (tt, (tt, tt)); options = tt }, tt),
+    record { places = (tt, (λ n low high. high, tt)); options = (moves_value, tt) },
+    (
+      record { places = (tt, (tt, tt)); options = tt },
+      (
+        record { places = (λ n low high. tt, tt); options = tt },
+        (record { places = (tt, (tt, tt)); options = (workers_value, (tt, (tt, (moves_value, tt)))) }, tt),
+      ),
+    ),
   ),
 )
 
@@ -217,19 +235,33 @@ said-within words said is = by_test (list_any (λ word. length word == 0) words)
     by_test true is = absurd (cc)
     by_test false is = named-within words said is
 
--- the value of an option is within its limit
-pub value-within : (name : List ℕ) (given : List WordGiven) (n : ℕ) → AllByRecursion (λ one. (n : ℕ) → one.value ≡ Some n → IsLimit n) given → value_named name given ≡ Some n → IsLimit n
+find_found : {X : Type 0} (test : X → Bool) (xs : List X) (x : X) → find test xs ≡ Some x → test x ≡ true
+find_found test [] x is = absurd (cc)
+find_found test (y ∷ ys) x is = by_test (test y) refl (find_found test ys x) is
+  where
+    by_test : (b : Bool) → test y ≡ b → (find test ys ≡ Some x → test x ≡ true) → cond b (Some y) (find test ys) ≡ Some x → test x ≡ true
+    by_test true found later is = subst (λ z. test z ≡ true) (some_is is) found
+    by_test false found later is = later is
+
+-- the value of an option is what its name lets it be
+pub value-within : (name : List ℕ) (given : List WordGiven) (n : ℕ) → AllByRecursion (λ one. (n : ℕ) → one.value ≡ Some n → IsValueOf one.name n) given → value_named name given ≡ Some n → IsValueOf name n
 value-within name given n all is = by_one (find (λ one. bytes_eq one.name name) given) refl is
   where
-    by_one : (o : Option WordGiven) → find (λ one. bytes_eq one.name name) given ≡ o → (o >>= λ one. one.value) ≡ Some n → IsLimit n
+    by_one : (o : Option WordGiven) → find (λ one. bytes_eq one.name name) given ≡ o → (o >>= λ one. one.value) ≡ Some n → IsValueOf name n
     by_one None found is = absurd (cc)
-    by_one (Some one) found is = find_has (HasQ IsLimit) (λ one. bytes_eq one.name name) given one all found n is
+    by_one (Some one) found is =
+        subst (λ m. IsValueOf m n) ((bytes_eq-Decides one.name name).0 (find_found (λ one. bytes_eq one.name name) given one found))
+        (find_has (HasQ IsValueOf) (λ one. bytes_eq one.name name) given one all found n is)
 
 -- a grade in the second place is within its limit
-pub grade-within : (places : List WordPlace) (name : List ℕ) (n : ℕ) → AllByRecursion IsPlaceWithin places → text_and_number places ≡ Some (name, n) → n ≤ GRADE_LIMIT
-grade-within (text word ∷ number k ∷ []) name n all is = subst (λ (m : ℕ). m ≤ GRADE_LIMIT) (ap (λ (p : List ℕ × ℕ). p.1) (some_is is)) all.1.0
-grade-within [] name n all is = absurd (cc)
-grade-within (text word ∷ []) name n all is = absurd (cc)
-grade-within (number k ∷ places) name n all is = absurd (cc)
-grade-within (text word ∷ text other ∷ places) name n all is = absurd (cc)
-grade-within (text word ∷ number k ∷ more ∷ places) name n all is = absurd (cc)
+pub grade-within : (command : CommandName) (places : List WordPlace) (name : List ℕ) (n : ℕ) → command ≡ Certify → AllByRecursion (IsPlaceWithin command) places →
+    text_and_number places ≡ Some (name, n) → n ≤ GRADE_LIMIT
+grade-within command places name n same all is = of_certify places name n (subst (λ c. AllByRecursion (IsPlaceWithin c) places) same all) is
+  where
+    of_certify : (places : List WordPlace) (name : List ℕ) (n : ℕ) → AllByRecursion (IsPlaceWithin Certify) places → text_and_number places ≡ Some (name, n) → n ≤ GRADE_LIMIT
+    of_certify (text word ∷ number k ∷ []) name n all is = subst (λ (m : ℕ). m ≤ GRADE_LIMIT) (ap (λ (p : List ℕ × ℕ). p.1) (some_is is)) all.1.0
+    of_certify [] name n all is = absurd (cc)
+    of_certify (text word ∷ []) name n all is = absurd (cc)
+    of_certify (number k ∷ places) name n all is = absurd (cc)
+    of_certify (text word ∷ text other ∷ places) name n all is = absurd (cc)
+    of_certify (text word ∷ number k ∷ more ∷ places) name n all is = absurd (cc)

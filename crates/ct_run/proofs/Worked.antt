@@ -14,7 +14,7 @@ use Rattle.ct_run.specs.declared.status.Status.TheVariants.{Done, Usage, BadInst
 use Rattle.ct_text.specs.Numbers.{natural_of}
 use Rattle.ct_words.specs.Parts.{parts_of}
 use Rattle.ct_words.specs.Said.{places_of}
-use Rattle.ct_run.specs.Words.{Command, answer, certify, check, command_of}
+use Rattle.ct_run.specs.Words.{Work, answer, certify, check, Command, on, make, serve, command_of}
 use Rattle.ct_instance.specs.Reach.{full_grade_up_to}
 use Rattle.ct_ledger.specs.Parts.{LedgerParts}
 use Rattle.ct_checker.specs.declared.verdicts.Verdict.{Verdict}
@@ -22,7 +22,7 @@ use Rattle.ct_checker.specs.declared.verdicts.Verdict.TheVariants.{Accepted, Ref
 use Rattle.ct_checker.specs.Checking.{verdict_of}
 use Rattle.ct_run.specs.Checked.{IsVerdictEnding, IsChecked, over, faulty, weighed}
 use Rattle.ct_run.specs.Outcome.{bad_instance, bad_sessions, answered, IsEnding, Wrote}
-use Rattle.ct_run.specs.Plan.{ends, by_value, case_of, ledger_or_full, work_plan, instance_name, plan_of}
+use Rattle.ct_run.specs.Plan.{ends, by_value, case_of, ledger_or_full, work_plan, instance_plan, plan_of, plain_of}
 use Rattle.ct_run.specs.Running.{HasBytes, Ends}
 
 zero_column_line : IsEnding (bad_instance (Text 5 3 ZeroColumn)) BadInstance (codes "bad instance: line 5 column 3: zero column" ++ newline)
@@ -34,17 +34,29 @@ too_long_line = (refl, refl)
 
 -- ---- words
 
-three_words : command_of (codes "answer" ∷ codes "-" ∷ codes "S" ∷ []) ≡ Some (answer (codes "-") (codes "S") false false 4096)
+three_words : command_of (codes "answer" ∷ codes "-" ∷ codes "S" ∷ []) ≡ Some (on (codes "-") (answer (codes "S") false false 4096))
 unfolding parts_of places_of
 three_words = refl
 
-options_of_answer : command_of (codes "answer" ∷ codes "--moves=2" ∷ codes "--" ∷ codes "K" ∷ codes "-S" ∷ []) ≡ Some (answer (codes "K") (codes "-S") false false 2)
+options_of_answer : command_of (codes "answer" ∷ codes "--moves=2" ∷ codes "--" ∷ codes "K" ∷ codes "-S" ∷ []) ≡ Some (on (codes "K") (answer (codes "-S") false false 2))
 unfolding parts_of places_of natural_of
 options_of_answer = refl
 
-a_grade : command_of (codes "certify" ∷ codes "K" ∷ codes "15" ∷ []) ≡ Some (certify (codes "K") 15 4096)
+a_grade : command_of (codes "certify" ∷ codes "K" ∷ codes "15" ∷ []) ≡ Some (on (codes "K") (certify 15 4096))
 unfolding parts_of places_of natural_of
 a_grade = refl
+
+a_number : command_of (codes "make" ∷ codes "18446744073709551615" ∷ []) ≡ Some (make 18446744073709551615)
+unfolding parts_of places_of natural_of
+a_number = refl
+
+four_workers : command_of (codes "serve" ∷ codes "K" ∷ codes "S" ∷ codes "--levels" ∷ []) ≡ Some (serve (codes "K") (codes "S") 4 false true 4096)
+unfolding parts_of places_of natural_of
+four_workers = refl
+
+no_workers : command_of (codes "serve" ∷ codes "K" ∷ codes "S" ∷ codes "--workers=0" ∷ []) ≡ Some (serve (codes "K") (codes "S") 0 false false 4096)
+unfolding parts_of places_of natural_of
+no_workers = refl
 
 a_dash : command_of (codes "answer" ∷ codes "K" ∷ codes "-S" ∷ []) ≡ None
 unfolding parts_of places_of
@@ -79,18 +91,20 @@ no_usage_of_ledger i bytes text (over long own same) = let no : Usage ≡ BadLed
 no_usage_of_ledger i bytes text (faulty line within fault own same) = let no : Usage ≡ BadLedger = own in cc
 no_usage_of_ledger i bytes text (weighed l within is same verdict) = no_usage_of_verdict (verdict_of i l) i l text verdict
 
-no_usage_by_work : (command : Command) (i : Problem) (told : List ℕ → Told) (old new : Option (List ℕ)) → Ends (work_plan command i) told (Wrote Usage old new) → ⊥
-no_usage_by_work (answer instance sessions walks levels moves) i told old new wrote =
+no_usage_by_work : (work : Work) (i : Problem) (told : List ℕ → Told) (old new : Option (List ℕ)) → Ends (work_plan work i) told (Wrote Usage old new) → ⊥
+no_usage_by_work (answer sessions walks levels moves) i told old new wrote =
     of_bytes (told sessions) _ ⊥ (λ bytes. no_usage_by_sessions (session_file i.rows bytes) (case_of (record { limit = moves; walks = walks; levels = levels }) i) told old new) wrote
-no_usage_by_work (certify instance grade moves) i told old new wrote = no_usage_of_grade (full_grade_up_to i moves grade) i grade old new wrote
-no_usage_by_work (check instance ledger) i told old new wrote = of_bytes (told ledger) _ ⊥ (λ bytes w. no_usage_of_ledger i bytes w.0 w.1.0) wrote
+no_usage_by_work (certify grade moves) i told old new wrote = no_usage_of_grade (full_grade_up_to i moves grade) i grade old new wrote
+no_usage_by_work (check ledger) i told old new wrote = of_bytes (told ledger) _ ⊥ (λ bytes w. no_usage_of_ledger i bytes w.0 w.1.0) wrote
 
-no_usage : (read : Result Problem Fault) (command : Command) (told : List ℕ → Told) (old new : Option (List ℕ)) →
-    Ends (by_value bad_instance (work_plan command) read) told (Wrote Usage old new) → ⊥
-no_usage (Ok i) command told old new wrote = no_usage_by_work command i told old new wrote
-no_usage (Err fault) command told old new wrote = let no : Usage ≡ BadInstance = wrote.1.0.0 in cc
+no_usage : (read : Result Problem Fault) (work : Work) (told : List ℕ → Told) (old new : Option (List ℕ)) →
+    Ends (by_value bad_instance (work_plan work) read) told (Wrote Usage old new) → ⊥
+no_usage (Ok i) work told old new wrote = no_usage_by_work work i told old new wrote
+no_usage (Err fault) work told old new wrote = let no : Usage ≡ BadInstance = wrote.1.0.0 in cc
 
-usage_only : (command : Option Command) (told : List ℕ → Told) (old new : Option (List ℕ)) → Ends (plan_of command) told (Wrote Usage old new) → command ≡ None
+usage_only : (command : Option Command) (told : List ℕ → Told) (old new : Option (List ℕ)) → Ends (plan_of (plain_of command)) told (Wrote Usage old new) → plain_of command ≡ None
 usage_only None told old new wrote = refl
-usage_only (Some command) told old new wrote =
-    absurd (of_bytes (told (instance_name command)) _ ⊥ (λ bytes. no_usage (instance_file bytes) command told old new) wrote)
+usage_only (Some (on instance work)) told old new wrote =
+    absurd (of_bytes (told instance) _ ⊥ (λ bytes. no_usage (instance_file bytes) work told old new) wrote)
+usage_only (Some (make number)) told old new wrote = let no : Usage ≡ Done = wrote.1.0.0 in absurd (cc)
+usage_only (Some (serve instance sessions workers walks levels moves)) told old new wrote = refl

@@ -1,9 +1,16 @@
 -- What the program's commands stand for.
+use Rattle.ct_run.specs.declared.words.Work.{Work as RustWork}
+use Rattle.ct_run.specs.declared.words.Work.TheVariants.{Answer, Certify, Check}
 use Rattle.ct_run.specs.declared.words.Command.{Command as Rust}
-use Rattle.ct_run.specs.declared.words.Command.TheVariants.{Answer, Certify, Check}
-use Rattle.ct_run.specs.Words.{Command, answer, certify, check}
+use Rattle.ct_run.specs.declared.words.Command.TheVariants.{On, Make, Serve}
+use Rattle.ct_run.specs.Words.{Work, answer, certify, check, Command, on, make, serve}
+
+abbrev pub work_seen : RustWork → Work
+work_seen (Answer sessions walks levels moves) = answer sessions.now walks levels moves
+work_seen (Certify grade moves) = certify grade moves
+work_seen (Check ledger) = check ledger.now
 
 abbrev pub seen : Rust → Command
-seen (Answer instance sessions walks levels moves) = answer instance.now sessions.now walks levels moves
-seen (Certify instance grade moves) = certify instance.now grade moves
-seen (Check instance ledger) = check instance.now ledger.now
+seen (On instance work) = on instance.now (work_seen work)
+seen (Make number) = make number
+seen (Serve instance sessions workers walks levels moves) = serve instance.now sessions.now workers walks levels moves

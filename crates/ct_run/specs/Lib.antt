@@ -4,6 +4,7 @@ pub mod Commands
 pub mod Status
 pub mod Checked
 pub mod Certificate
+pub mod Summarised
 pub mod Outcome
 pub mod Forms
 pub mod Plan

@@ -11,10 +11,11 @@ use Rattle.ct_run.specs.declared.status.Status.TheVariants.{Done, Usage, BadInst
 use Rattle.ct_report.specs.declared.reports.Report.{Report}
 use Rattle.ct_report.specs.ReportText.{report_text}
 use Rattle.ct_legal.specs.Cases.{Case}
-use Rattle.ct_legal.specs.Legal.{IsLegalAnswered}
+use Rattle.ct_legal.specs.Legal.{IsLegalServed, IsLegalAnswered}
 use Rattle.ct_run.specs.Texts.{newline}
 use Rattle.ct_run.specs.Certificate.{IsCertificate}
 use Rattle.ct_run.specs.Checked.{IsChecked}
+use Rattle.ct_run.specs.Summarised.{IsSummaryOf}
 
 -- what a run comes to before it writes
 pub data RunOutcome : Type 0 where
@@ -25,10 +26,16 @@ pub data RunOutcome : Type 0 where
   certified : Problem → ℕ → RunOutcome
   full : ℕ → RunOutcome
   checked : Problem → List ℕ → RunOutcome
+  made : ℕ → RunOutcome
+  served : Case → Script → RunOutcome
 
 -- a text of a report that is legal where each ask is taken as a solve
 abbrev pub IsReportOf : Case → Script → List ℕ → Type 0
 IsReportOf c script text = (report : Report) × (IsLegalAnswered c script report × (text ≡ report_text report))
+
+-- a text of a report that is legal where asks may be answered or not yet
+abbrev pub IsServedReportOf : Case → Script → List ℕ → Type 0
+IsServedReportOf c script text = (report : Report) × (IsLegalServed c script report × (text ≡ report_text report))
 
 -- the status and the text with which the outcome ends
 abbrev pub IsEnding : RunOutcome → Status → List ℕ → Type 0
@@ -39,6 +46,8 @@ IsEnding (answered c script) status text = (status ≡ Done) × IsReportOf c scr
 IsEnding (certified i grade) status text = (status ≡ Done) × IsCertificate i grade text
 IsEnding (full grade) status text = (status ≡ Full) × (text ≡ codes "full " ++ decimal grade ++ newline)
 IsEnding (checked i bytes) status text = IsChecked i bytes status text
+IsEnding (made number) status text = (status ≡ Done) × IsSummaryOf number text
+IsEnding (served c script) status text = (status ≡ Done) × IsServedReportOf c script text
 
 abbrev pub HasStatus : RunOutcome → Status → Type 0
 HasStatus outcome status = (text : List ℕ) × IsEnding outcome status text

@@ -7,8 +7,8 @@ use Rattle.ct_instance.specs.Instance.{Problem}
 use Rattle.ct_instance.specs.Reach.{full_grade_up_to}
 use Rattle.ct_legal.specs.Cases.{Case, plain_case}
 use Rattle.ct_answer.specs.declared.options.Options.{Options}
-use Rattle.ct_run.specs.Words.{Command, answer, certify, check, command_of}
-use Rattle.ct_run.specs.Outcome.{RunOutcome, usage, bad_instance, bad_sessions, answered, certified, full, checked}
+use Rattle.ct_run.specs.Words.{Work, answer, certify, check, Command, on, make, serve, command_of}
+use Rattle.ct_run.specs.Outcome.{RunOutcome, usage, bad_instance, bad_sessions, answered, certified, full, checked, made, served}
 
 -- it ends with an outcome, or asks for the file of a name and goes on with its bytes
 pub data Plan : Type 0 where
@@ -28,6 +28,10 @@ reads name value_of refused go = asks name (λ bytes. by_value refused go (value
 abbrev pub sessions_plan : List ℕ → Case → Plan
 sessions_plan sessions c = reads sessions (session_file (c.instance).rows) bad_sessions (λ script. ends (answered c script))
 
+-- answers them by sessions and workers
+abbrev pub serve_plan : List ℕ → Case → Plan
+serve_plan sessions c = reads sessions (session_file (c.instance).rows) bad_sessions (λ script. ends (served c script))
+
 -- the case of an instance with the options of `answer`
 abbrev pub case_of : Options → Problem → Case
 case_of o i = plain_case i o.limit o.walks o.levels
@@ -44,24 +48,32 @@ certify_plan grade limit i = ends (ledger_or_full i grade (full_grade_up_to i li
 abbrev pub check_plan : List ℕ → Problem → Plan
 check_plan ledger i = asks ledger (λ bytes. ends (checked i bytes))
 
--- what a command does with its instance
-abbrev pub work_plan : Command → Problem → Plan
-work_plan (answer instance sessions walks levels moves) i = sessions_plan sessions (case_of (record { limit = moves; walks = walks; levels = levels }) i)
-work_plan (certify instance grade moves) i = certify_plan grade moves i
-work_plan (check instance ledger) i = check_plan ledger i
+-- what is done with the instance
+abbrev pub work_plan : Work → Problem → Plan
+work_plan (answer sessions walks levels moves) i = sessions_plan sessions (case_of (record { limit = moves; walks = walks; levels = levels }) i)
+work_plan (certify grade moves) i = certify_plan grade moves i
+work_plan (check ledger) i = check_plan ledger i
 
-abbrev pub instance_name : Command → List ℕ
-instance_name (answer instance sessions walks levels moves) = instance
-instance_name (certify instance grade moves) = instance
-instance_name (check instance ledger) = instance
+abbrev pub instance_plan : List ℕ → (Problem → Plan) → Plan
+instance_plan name go = reads name instance_file bad_instance go
 
 abbrev pub command_plan : Command → Plan
-command_plan command = reads (instance_name command) instance_file bad_instance (work_plan command)
+command_plan (on instance work) = instance_plan instance (work_plan work)
+command_plan (make number) = ends (made number)
+command_plan (serve instance sessions workers walks levels moves) =
+    instance_plan instance (λ i. serve_plan sessions (case_of (record { limit = moves; walks = walks; levels = levels }) i))
 
 abbrev pub plan_of : Option Command → Plan
 plan_of None = ends usage
 plan_of (Some command) = command_plan command
 
--- the plan of the words after the program's name
+-- every command but `serve`, which is another call's
+abbrev pub plain_of : Option Command → Option Command
+plain_of None = None
+plain_of (Some (on instance work)) = Some (on instance work)
+plain_of (Some (make number)) = Some (make number)
+plain_of (Some (serve instance sessions workers walks levels moves)) = None
+
+-- the plan of the words after the program's name, of which those of `serve` are taken as none of a command
 abbrev pub plan_in : List (String Global) → Plan
-plan_in words = plan_of (command_of (map string_bytes words))
+plan_in words = plan_of (plain_of (command_of (map string_bytes words)))

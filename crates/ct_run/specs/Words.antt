@@ -2,22 +2,34 @@
 use Rattle.std.specs.Prelude.{ℕ, ◌≤◌, ◌≡◌, Bool, List, [], ◌∷◌, Option, Some, None, option_map, unwrap_or, codes}
 use Rattle.std.specs.List.{AllByRecursion}
 use Rattle.ct_vectors.specs.declared.limits.TheConstants.{GRADE_LIMIT, MOVE_LIMIT}
+use Rattle.ct_words.specs.declared.table.TheConstants.{WORKER_LIMIT}
 use Rattle.ct_words.specs.Table.{commands}
 use Rattle.ct_words.specs.Role.{WordGiven, ◌>>=◌}
 use Rattle.ct_words.specs.Parts.{has_name, value_of}
 use Rattle.ct_words.specs.Said.{WordPlace, text, number, WordsSaid, said_of}
 use Rattle.ct_words.specs.declared.table.CommandName.{CommandName}
-use Rattle.ct_words.specs.declared.table.CommandName.TheVariants.{Answer, Certify, Check}
+use Rattle.ct_words.specs.declared.table.CommandName.TheVariants.{Answer, Certify, Check, Make, Serve}
+use Rattle.ct_run.specs.declared.words.TheConstants.{WORKER_DEFAULT}
 
--- a command with the names of its files and what its options say; `moves` is the limit on the number of moves
+-- what is done with an instance in one thread; `moves` is the limit on the number of moves
+pub data Work : Type 0 where
+  answer : (sessions : List ℕ) (walks levels : Bool) (moves : ℕ) → Work
+  certify : (grade moves : ℕ) → Work
+  check : (ledger : List ℕ) → Work
+
+-- a command with the names of its files and what its options say
 pub data Command : Type 0 where
-  answer : (instance sessions : List ℕ) (walks levels : Bool) (moves : ℕ) → Command
-  certify : (instance : List ℕ) (grade moves : ℕ) → Command
-  check : (instance ledger : List ℕ) → Command
+  on : (instance : List ℕ) → Work → Command
+  make : ℕ → Command
+  serve : (instance sessions : List ℕ) (workers : ℕ) (walks levels : Bool) (moves : ℕ) → Command
 
 -- the limit that --moves gives, and the greatest where it isn't given
 abbrev pub limit_in : List WordGiven → ℕ
 limit_in given = unwrap_or (value_of (codes "moves") given) MOVE_LIMIT
+
+-- the number of workers, likewise
+abbrev pub workers_in : List WordGiven → ℕ
+workers_in given = unwrap_or (value_of (codes "workers") given) WORKER_DEFAULT
 
 abbrev pub two_texts : List WordPlace → Option (List ℕ × List ℕ)
 two_texts (text first ∷ text second ∷ []) = Some (first, second)
@@ -27,11 +39,17 @@ abbrev pub text_and_number : List WordPlace → Option (List ℕ × ℕ)
 text_and_number (text first ∷ number second ∷ []) = Some (first, second)
 text_and_number _ = None
 
+abbrev pub one_number : List WordPlace → Option ℕ
+one_number (number only ∷ []) = Some only
+one_number _ = None
+
 -- what was said, as a command
 abbrev pub as_command : CommandName → List WordPlace → List WordGiven → Option Command
-as_command Answer places given = option_map (λ names. answer names.0 names.1 (has_name (codes "walks") given) (has_name (codes "levels") given) (limit_in given)) (two_texts places)
-as_command Certify places given = option_map (λ words. certify words.0 words.1 (limit_in given)) (text_and_number places)
-as_command Check places given = option_map (λ names. check names.0 names.1) (two_texts places)
+as_command Answer places given = option_map (λ names. on names.0 (answer names.1 (has_name (codes "walks") given) (has_name (codes "levels") given) (limit_in given))) (two_texts places)
+as_command Certify places given = option_map (λ words. on words.0 (certify words.1 (limit_in given))) (text_and_number places)
+as_command Check places given = option_map (λ names. on names.0 (check names.1)) (two_texts places)
+as_command Make places given = option_map make (one_number places)
+as_command Serve places given = option_map (λ names. serve names.0 names.1 (workers_in given) (has_name (codes "walks") given) (has_name (codes "levels") given) (limit_in given)) (two_texts places)
 
 -- the command that the words after the program's name are, if they are one
 abbrev pub command_of : List (List ℕ) → Option Command
@@ -42,17 +60,31 @@ command_of words = said_of commands words >>= λ said. as_command said.command s
 abbrev pub IsLimit : ℕ → Type 0
 IsLimit n = (1 ≤ n) × (n ≤ MOVE_LIMIT)
 
-abbrev pub IsPlaceWithin : WordPlace → Type 0
-IsPlaceWithin (text word) = Unit {0}
-IsPlaceWithin (number n) = n ≤ GRADE_LIMIT
+-- what a number is among the positional words of the command
+abbrev pub IsNumberOf : CommandName → ℕ → Type 0
+IsNumberOf Certify n = n ≤ GRADE_LIMIT
+IsNumberOf command n = Unit {0}
 
--- a value is a limit on the number of moves, and a number in a place is a grade within its limit
+abbrev pub IsPlaceWithin : CommandName → WordPlace → Type 0
+IsPlaceWithin command (text word) = Unit {0}
+IsPlaceWithin command (number n) = IsNumberOf command n
+
+-- what the value of the option of this name is
+abbrev pub IsValueOf : List ℕ → ℕ → Type 0
+IsValueOf name n = (name ≡ codes "moves" → IsLimit n) × (name ≡ codes "workers" → n ≤ WORKER_LIMIT)
+
+-- the numbers in places are what the command wants there, and the values are what their options want
 pub record HasNumbersWithin (said : WordsSaid) : Type 0 where
-  pub places : AllByRecursion IsPlaceWithin said.places
-  pub given : AllByRecursion (λ one. (n : ℕ) → one.value ≡ Some n → IsLimit n) said.given
+  pub places : AllByRecursion (IsPlaceWithin said.command) said.places
+  pub given : AllByRecursion (λ one. (n : ℕ) → one.value ≡ Some n → IsValueOf one.name n) said.given
 
 -- the same of a command
+abbrev pub IsWorkWithin : Work → Type 0
+IsWorkWithin (answer sessions walks levels moves) = IsLimit moves
+IsWorkWithin (certify grade moves) = (grade ≤ GRADE_LIMIT) × IsLimit moves
+IsWorkWithin (check ledger) = Unit {0}
+
 abbrev pub IsCommandWithin : Command → Type 0
-IsCommandWithin (answer instance sessions walks levels moves) = IsLimit moves
-IsCommandWithin (certify instance grade moves) = (grade ≤ GRADE_LIMIT) × IsLimit moves
-IsCommandWithin (check instance ledger) = Unit {0}
+IsCommandWithin (on instance work) = IsWorkWithin work
+IsCommandWithin (make n) = Unit {0}
+IsCommandWithin (serve instance sessions workers walks levels moves) = (workers ≤ WORKER_LIMIT) × IsLimit moves

@@ -13,8 +13,10 @@ mod ending;
 pub mod laws;
 #[cfg(test)]
 mod ledger_tests;
+mod making;
 mod reading;
 mod run;
+mod sharing;
 mod status;
 mod stop;
 #[cfg(test)]

@@ -1,12 +1,12 @@
 //! The top call.
-ghost use Rattle.std.specs.Prelude.{◌≡◌, ◌≤◌, ⊤, false, ℕ, List, IfOk, IfSome, option_map};
+ghost use Rattle.std.specs.Prelude.{◌≡◌, ◌≤◌, ⊤, false, ℕ, List, IfSome, option_map};
 ghost use Rattle.std.specs.Arc.{arc_value};
 ghost use Rattle.ct_outside.specs.Faults.{Rose};
 ghost use Rattle.ct_outside.specs.Shelf.{KeepsShelf};
-ghost use Rattle.ct_run.specs.Words.{IsLimit, IsCommandWithin};
-ghost use Rattle.ct_run.specs.Commands.{seen};
+ghost use Rattle.ct_run.specs.Words.{IsLimit, IsWorkWithin, IsCommandWithin};
+ghost use Rattle.ct_run.specs.Commands.{work_seen, seen};
 ghost use Rattle.ct_run.specs.Outcome.{Wrote, WroteFront, is_stop, IsUnlessStopped, IsUnlessMemory};
-ghost use Rattle.ct_run.specs.Plan.{case_of, sessions_plan, check_plan, work_plan, command_plan, plan_of, plan_in};
+ghost use Rattle.ct_run.specs.Plan.{case_of, sessions_plan, check_plan, work_plan, instance_plan, plan_of, plain_of, plan_in};
 ghost use Rattle.ct_run.specs.Running.{Ends, WouldEnd, ComesTo, Runs, HasReadFault, NoReadFault};
 ghost use Rattle.ct_run.specs.Stopping.{Ran};
 
@@ -15,16 +15,18 @@ use crate::checking::check_ending;
 use crate::ending::{
     Ending, bad_instance_ending, bad_sessions_ending, report_ending, usage_ending,
 };
+use crate::making::made_ending;
 use crate::reading::{file_at, instance_in, script_in};
+use crate::sharing::shared;
 use crate::status::Status;
 use crate::stop::Stop;
-use crate::words::{Command, command_in, instance_of};
+use crate::words::{Command, Work, command_in};
 use ct_answer::Options;
 use ct_input::InputStop;
 use ct_input::limits::{INSTANCE_FILE_LIMIT, LEDGER_FILE_LIMIT, SESSION_FILE_LIMIT};
 use ct_instance::Instance;
 use ct_outside::{Shelf, Sink, write_whole};
-use std::alloc::{AllocError, Global};
+use std::alloc::Global;
 use std::sync::Arc;
 
 // The ending of `answer` on the session file of an instance.
@@ -64,25 +66,24 @@ fn ledger_ending<S: Shelf>(
     Ok(ending)
 }
 
-// The ending of a command on its instance.
+// The ending of the work on an instance.
 fn work_ending<S: Shelf>(
     alloc: Global,
-    command: Command<'_>,
+    work: Work<'_>,
     inst: Arc<Instance>,
     shelf: &mut S,
 ) -> Result<Ending, Stop>
-    requires { IsCommandWithin (seen command) }
-    ensures ran { Ran (work_plan (seen command.entry) (arc_value inst)) (S.told shelf.old) (S.faults shelf.old) (S.faults shelf.new) result }
+    requires { IsWorkWithin (work_seen work) }
+    ensures ran { Ran (work_plan (work_seen work.entry) (arc_value inst)) (S.told shelf.old) (S.faults shelf.old) (S.faults shelf.new) result }
     ensures kept { S.told shelf.new ≡ S.told shelf.old }
     ensures later { (name : List ℕ) → S.faults shelf.old name ≤ S.faults shelf.new name }
 {
-    match command {
-        Command::Answer {
+    match work {
+        Work::Answer {
             sessions,
             walks,
             levels,
             moves,
-            ..
         } => {
             let options = Options {
                 limit: moves,
@@ -91,61 +92,49 @@ fn work_ending<S: Shelf>(
             };
             sessions_ending(alloc, &inst, sessions, options, shelf)
         }
-        Command::Certify { grade, moves, .. } => Ok(certify_ending(alloc, inst, grade, moves)?),
-        Command::Check { ledger, .. } => ledger_ending(alloc, &inst, ledger, shelf),
+        Work::Certify { grade, moves } => Ok(certify_ending(alloc, inst, grade, moves)?),
+        Work::Check { ledger } => ledger_ending(alloc, &inst, ledger, shelf),
     }
 }
 
-fn shared(alloc: Global, inst: Instance) -> Result<Arc<Instance>, AllocError>
-    ensures { IfOk result (λ made. arc_value made ≡ inst) }
-{
-    match Arc::new(alloc, inst) {
-        Ok(made) => Ok(made),
-        Err(_) => Err(AllocError),
-    }
-}
-
-// The ending of a command.
-fn command_ending<S: Shelf>(
+// The ending of the work on the instance of a file.
+fn instance_ending<S: Shelf>(
     alloc: Global,
-    command: Command<'_>,
+    instance: &str,
+    work: Work<'_>,
     shelf: &mut S,
 ) -> Result<Ending, Stop>
-    requires { IsCommandWithin (seen command) }
-    ensures ran { Ran (command_plan (seen command.entry)) (S.told shelf.old) (S.faults shelf.old) (S.faults shelf.new) result }
+    requires { IsWorkWithin (work_seen work) }
+    ensures ran { Ran (instance_plan instance.now (work_plan (work_seen work.entry))) (S.told shelf.old) (S.faults shelf.old) (S.faults shelf.new) result }
     ensures kept { S.told shelf.new ≡ S.told shelf.old }
     ensures later { (name : List ℕ) → S.faults shelf.old name ≤ S.faults shelf.new name }
 {
-    let bytes = file_at(
-        alloc,
-        instance_of(&command),
-        INSTANCE_FILE_LIMIT as u64,
-        shelf,
-    )?;
+    let bytes = file_at(alloc, instance, INSTANCE_FILE_LIMIT as u64, shelf)?;
     match instance_in(alloc, &bytes) {
         Ok(read) => {
             let inst = shared(alloc, read)?;
-            work_ending(alloc, command, inst, shelf)
+            work_ending(alloc, work, inst, shelf)
         }
         Err(InputStop::Fault(fault)) => Ok(bad_instance_ending(alloc, &fault)?),
         Err(InputStop::Memory) => Err(Stop::Memory),
     }
 }
 
-// The ending of a command, or of words that are none.
+// The ending of a command but `serve`, or of words that are none.
 fn ending_by<S: Shelf>(
     alloc: Global,
     command: Option<Command<'_>>,
     shelf: &mut S,
 ) -> Result<Ending, Stop>
     requires { IfSome command (λ known. IsCommandWithin (seen known)) }
-    ensures ran { Ran (plan_of (option_map seen command.entry)) (S.told shelf.old) (S.faults shelf.old) (S.faults shelf.new) result }
+    ensures ran { Ran (plan_of (plain_of (option_map seen command.entry))) (S.told shelf.old) (S.faults shelf.old) (S.faults shelf.new) result }
     ensures kept { S.told shelf.new ≡ S.told shelf.old }
     ensures later { (name : List ℕ) → S.faults shelf.old name ≤ S.faults shelf.new name }
 {
     match command {
-        Some(command) => command_ending(alloc, command, shelf),
-        None => Ok(usage_ending(alloc)?),
+        Some(Command::On { instance, work }) => instance_ending(alloc, instance, work, shelf),
+        Some(Command::Make { number }) => Ok(made_ending(alloc, number)?),
+        Some(Command::Serve { .. }) | None => Ok(usage_ending(alloc)?),
     }
 }
 
@@ -163,7 +152,8 @@ fn ending_of<S: Shelf>(alloc: Global, words: &[String], shelf: &mut S) -> Result
 
 /// Runs the command that the words after the program's name are, and writes its text or the line of its refusal:
 /// `answer INSTANCE SESSIONS` answers each request of the session file, an ask as a solve; `certify INSTANCE GRADE` prints
-/// the ledger of the test set of a grade, and `check INSTANCE LEDGER` checks a ledger. `--walks` shows the walk of each
+/// the ledger of the test set of a grade, `check INSTANCE LEDGER` checks a ledger, and `make NUMBER` answers the requests of
+/// the input that is made of a number, and prints their summary. The words of `serve` are none of its commands. `--walks` shows the walk of each
 /// answer, `--levels` the level of each phase, and `--moves N` keeps test lists to N moves.
 ///
 /// It always returns. The files are held whole, and so is the text before the first write. The time is that of one

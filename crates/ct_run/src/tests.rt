@@ -206,6 +206,8 @@ fn usage_of_other_words(rt: HostRuntime) -> Result<(), Fail> {
         &["answer", "K", "S", "--moves", "02"][..],
         &["answer", "K", "S", "--moves", "4097"][..],
         &["check", "K"][..],
+        &["make", "18446744073709551616"][..],
+        &["make", "0", "--moves", "2"][..],
     ] {
         let mut shelf = MemShelf::new(alloc);
         let mut out = MemSink::new(alloc, 1000, 1000)?;
@@ -248,6 +250,30 @@ fn options_of_an_answer(rt: HostRuntime) -> Result<(), Fail> {
         let report = format!(in alloc; "report 1\n{told}end\n")?;
         assert!(rt; status == Status::Done, "row {row}");
         assert!(rt; out.held() == report.as_bytes(), "row {row}");
+    }
+    Ok(())
+}
+
+// Each number, and what is written of the input that is made of it.
+#[test]
+fn summaries_of_made_inputs(rt: HostRuntime) -> Result<(), Fail> {
+    let alloc = rt.alloc();
+    for (number, text) in [
+        (
+            "0",
+            "made 0\ncolumns 6\nrequests 1000\noptimum 999\ninfeasible 1\nfull 0\ncost 5790667\nmoves 40\nlevel all\nend\n",
+        ),
+        (
+            "1",
+            "made 1\ncolumns 6\nrequests 1000\noptimum 998\ninfeasible 2\nfull 0\ncost 2756460\nmoves 31\nlevel all\nend\n",
+        ),
+    ] {
+        let mut shelf = MemShelf::new(alloc);
+        let mut out = MemSink::new(alloc, 1000, 1000)?;
+        let words = words_of(alloc, &["make", number])?;
+        let status = run_plain(alloc, &words, &mut shelf, &mut out);
+        assert!(rt; status == Status::Done, "{number}");
+        assert!(rt; out.held() == text.as_bytes(), "{number}");
     }
     Ok(())
 }

@@ -1,36 +1,49 @@
 //! The command that the words are.
-ghost use Rattle.std.specs.Prelude.{◌≡◌, map, option_map, string_bytes, IfOk, IfSome};
+ghost use Rattle.std.specs.Prelude.{◌≡◌, ◌≤◌, map, option_map, string_bytes, IfOk, IfSome};
 ghost use Rattle.ct_words.specs.Role.{given_seen};
 ghost use Rattle.ct_words.specs.Said.{place_seen, seen as said_seen};
-ghost use Rattle.ct_run.specs.Words.{IsLimit, HasNumbersWithin, IsCommandWithin, limit_in, two_texts as two_texts_of, text_and_number as text_and_number_of, as_command, command_of};
+ghost use Rattle.ct_run.specs.Words.{IsLimit, HasNumbersWithin, IsCommandWithin, limit_in, workers_in, two_texts as two_texts_of, text_and_number as text_and_number_of, one_number as one_number_of, as_command, command_of};
 ghost use Rattle.ct_run.specs.Commands.{seen};
-ghost use Rattle.ct_run.specs.Plan.{instance_name};
+ghost use Rattle.ct_words.specs.declared.table.TheConstants.{WORKER_LIMIT};
 
 use ct_vectors::limits::MOVE_LIMIT;
 use ct_words::{CommandName, Place, Said, said_in};
 use std::alloc::{AllocError, Global};
 
-/// A command, with the names of its files; `moves` is the limit on the number of moves.
+/// The number of workers where the words don't say it.
+pub const WORKER_DEFAULT: u64 = 4;
+
+/// What is done with an instance in one thread; `moves` is the limit on the number of moves.
 #[derive(Clone, Copy, Debug)]
-pub enum Command<'a> {
+pub enum Work<'a> {
     /// Answers the requests of a session file.
     Answer {
-        instance: &'a str,
         sessions: &'a str,
         walks: bool,
         levels: bool,
         moves: u32,
     },
     /// Prints the ledger of a grade.
-    Certify {
-        instance: &'a str,
-        grade: u64,
-        moves: u32,
-    },
+    Certify { grade: u64, moves: u32 },
     /// Checks a ledger.
-    Check {
+    Check { ledger: &'a str },
+}
+
+/// A command, with the names of its files.
+#[derive(Clone, Copy, Debug)]
+pub enum Command<'a> {
+    /// Works on the instance of a file.
+    On { instance: &'a str, work: Work<'a> },
+    /// Answers the requests of the input that is made of a number.
+    Make { number: u64 },
+    /// Answers the requests of a session file by sessions and workers that share a book.
+    Serve {
         instance: &'a str,
-        ledger: &'a str,
+        sessions: &'a str,
+        workers: u32,
+        walks: bool,
+        levels: bool,
+        moves: u32,
     },
 }
 
@@ -54,6 +67,16 @@ fn text_and_number<'a>(places: &[Place<'a>]) -> Option<(&'a str, u64)>
     }
 }
 
+// The one word, where it is a number.
+fn one_number(places: &[Place<'_>]) -> Option<u64>
+    ensures { result ≡ one_number_of (map place_seen places.now) }
+{
+    match places {
+        [Place::Number(only)] => Some(*only),
+        _ => None,
+    }
+}
+
 // The limit on the number of moves.
 fn limit_of(said: &Said<'_>) -> u32
     requires { HasNumbersWithin (said_seen said.now) }
@@ -63,6 +86,18 @@ fn limit_of(said: &Said<'_>) -> u32
     match said.value("moves") {
         Some(moves) => moves as u32,
         None => MOVE_LIMIT as u32,
+    }
+}
+
+// The number of workers.
+fn workers_of(said: &Said<'_>) -> u32
+    requires { HasNumbersWithin (said_seen said.now) }
+    ensures workers { result ≡ workers_in (map given_seen said.now.given.items) }
+    ensures within { result ≤ WORKER_LIMIT }
+{
+    match said.value("workers") {
+        Some(workers) => workers as u32,
+        None => WORKER_DEFAULT as u32,
     }
 }
 
@@ -76,25 +111,38 @@ fn command_said<'a>(said: &Said<'a>) -> Option<Command<'a>>
     match said.command {
         CommandName::Answer => {
             let (instance, sessions) = two_texts(&said.places)?;
-            Some(Command::Answer {
-                instance,
+            let work = Work::Answer {
                 sessions,
                 walks: said.has("walks"),
                 levels: said.has("levels"),
                 moves,
-            })
+            };
+            Some(Command::On { instance, work })
         }
         CommandName::Certify => {
             let (instance, grade) = text_and_number(&said.places)?;
-            Some(Command::Certify {
-                instance,
-                grade,
-                moves,
-            })
+            let work = Work::Certify { grade, moves };
+            Some(Command::On { instance, work })
         }
         CommandName::Check => {
             let (instance, ledger) = two_texts(&said.places)?;
-            Some(Command::Check { instance, ledger })
+            let work = Work::Check { ledger };
+            Some(Command::On { instance, work })
+        }
+        CommandName::Make => {
+            let number = one_number(&said.places)?;
+            Some(Command::Make { number })
+        }
+        CommandName::Serve => {
+            let (instance, sessions) = two_texts(&said.places)?;
+            Some(Command::Serve {
+                instance,
+                sessions,
+                workers: workers_of(said),
+                walks: said.has("walks"),
+                levels: said.has("levels"),
+                moves,
+            })
         }
     }
 }
@@ -107,16 +155,5 @@ pub fn command_in<'a>(alloc: Global, words: &'a [String]) -> Result<Option<Comma
     match said_in(alloc, words)? {
         Some(said) => Ok(command_said(&said)),
         None => Ok(None),
-    }
-}
-
-/// The name of the instance file.
-pub fn instance_of<'a>(command: &Command<'a>) -> &'a str
-    ensures { result.now ≡ instance_name (seen command.now) }
-{
-    match command {
-        Command::Answer { instance, .. } => instance,
-        Command::Certify { instance, .. } => instance,
-        Command::Check { instance, .. } => instance,
     }
 }

@@ -4,7 +4,7 @@ use Rattle.ct_text.specs.Numbers.{natural_of}
 use Rattle.ct_words.specs.Table.{commands}
 use Rattle.ct_words.specs.Parts.{parts_of}
 use Rattle.ct_words.specs.Said.{WordsSaid, said_of, places_of, text, number}
-use Rattle.ct_words.specs.declared.table.CommandName.TheVariants.{Answer, Certify}
+use Rattle.ct_words.specs.declared.table.CommandName.TheVariants.{Answer, Certify, Make, Serve}
 
 abbrev two_moves : Option WordsSaid
 two_moves = Some (record { command = Answer; places = text (codes "K") ∷ text (codes "S") ∷ []; given = record { name = codes "moves"; value = Some 2 } ∷ [] })
@@ -52,3 +52,19 @@ leading_zero = refl
 over_the_limit : said_of commands (codes "certify" ∷ codes "K" ∷ codes "16000000000001" ∷ []) ≡ None
 unfolding parts_of places_of natural_of
 over_the_limit = refl
+
+greatest_number : said_of commands (codes "make" ∷ codes "18446744073709551615" ∷ []) ≡ Some (record { command = Make; places = number 18446744073709551615 ∷ []; given = [] })
+unfolding parts_of places_of natural_of
+greatest_number = refl
+
+over_64_bits : said_of commands (codes "make" ∷ codes "18446744073709551616" ∷ []) ≡ None
+unfolding parts_of places_of natural_of
+over_64_bits = refl
+
+workers_of_serve : said_of commands (codes "serve" ∷ codes "K" ∷ codes "S" ∷ codes "--workers" ∷ codes "2" ∷ []) ≡ Some (record { command = Serve; places = text (codes "K") ∷ text (codes "S") ∷ []; given = record { name = codes "workers"; value = Some 2 } ∷ [] })
+unfolding parts_of places_of natural_of
+workers_of_serve = refl
+
+workers_of_answer : said_of commands (codes "answer" ∷ codes "K" ∷ codes "S" ∷ codes "--workers" ∷ codes "2" ∷ []) ≡ None
+unfolding parts_of places_of natural_of
+workers_of_answer = refl

@@ -3,7 +3,8 @@ use Rattle.std.specs.Prelude.{ℕ, List, [], ◌∷◌, map, Option, Some, None,
 use Rattle.ct_vectors.specs.declared.limits.TheConstants.{GRADE_LIMIT, MOVE_LIMIT}
 use Rattle.ct_words.specs.declared.table.Bounds.{Bounds}
 use Rattle.ct_words.specs.declared.table.CommandName.{CommandName}
-use Rattle.ct_words.specs.declared.table.CommandName.TheVariants.{Answer, Certify, Check}
+use Rattle.ct_words.specs.declared.table.CommandName.TheVariants.{Answer, Certify, Check, Make, Serve}
+use Rattle.ct_words.specs.declared.table.TheConstants.{WORKER_LIMIT}
 use Rattle.ct_words.specs.declared.table.OptionRow.{OptionRow}
 use Rattle.ct_words.specs.declared.table.CommandRow.{CommandRow}
 
@@ -35,13 +36,23 @@ from_to low high = Some (record { low = low; high = high })
 abbrev pub moves : WordOption
 moves = record { name = codes "moves"; bounds = from_to 1 MOVE_LIMIT }
 
+-- --workers N
+abbrev pub workers : WordOption
+workers = record { name = codes "workers"; bounds = from_to 0 WORKER_LIMIT }
+
 abbrev pub any_text : Option Bounds
 any_text = None
 
--- answer INSTANCE SESSIONS, certify INSTANCE GRADE, check INSTANCE LEDGER
+-- any of 64 bits
+abbrev pub any_number : Option Bounds
+any_number = from_to 0 18446744073709551615
+
+-- answer INSTANCE SESSIONS, certify INSTANCE GRADE, check INSTANCE LEDGER, make NUMBER, serve INSTANCE SESSIONS
 abbrev pub commands : List WordCommand
 commands =
     record { command = Answer; name = codes "answer"; places = any_text ∷ any_text ∷ []; options = flag (codes "walks") ∷ flag (codes "levels") ∷ moves ∷ [] }
     ∷ record { command = Certify; name = codes "certify"; places = any_text ∷ from_to 0 GRADE_LIMIT ∷ []; options = moves ∷ [] }
     ∷ record { command = Check; name = codes "check"; places = any_text ∷ any_text ∷ []; options = [] }
+    ∷ record { command = Make; name = codes "make"; places = any_number ∷ []; options = [] }
+    ∷ record { command = Serve; name = codes "serve"; places = any_text ∷ any_text ∷ []; options = workers ∷ flag (codes "walks") ∷ flag (codes "levels") ∷ moves ∷ [] }
     ∷ []

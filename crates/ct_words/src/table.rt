@@ -2,6 +2,9 @@
 
 use ct_vectors::limits::{GRADE_LIMIT, MOVE_LIMIT};
 
+/// The greatest number of workers that a word may spell.
+pub const WORKER_LIMIT: u64 = 16;
+
 /// A command of the program.
 #[derive(Clone, Copy, Debug)]
 pub enum CommandName {
@@ -11,6 +14,10 @@ pub enum CommandName {
     Certify,
     /// Checks a ledger.
     Check,
+    /// Answers the requests of an input that is made of a number, and prints their summary.
+    Make,
+    /// Answers the requests of a session file by sessions and workers that share a book.
+    Serve,
 }
 
 /// The least and the greatest number that a word may spell.
@@ -36,6 +43,16 @@ pub struct CommandRow {
     pub options: &'static [OptionRow],
 }
 
+const WALKS: OptionRow = OptionRow {
+    name: "walks",
+    bounds: None,
+};
+
+const LEVELS: OptionRow = OptionRow {
+    name: "levels",
+    bounds: None,
+};
+
 const MOVES: OptionRow = OptionRow {
     name: "moves",
     bounds: Some(Bounds {
@@ -44,28 +61,31 @@ const MOVES: OptionRow = OptionRow {
     }),
 };
 
+const WORKERS: OptionRow = OptionRow {
+    name: "workers",
+    bounds: Some(Bounds {
+        low: 0,
+        high: WORKER_LIMIT,
+    }),
+};
+
 const GRADE: Bounds = Bounds {
     low: 0,
     high: GRADE_LIMIT,
 };
 
+const ANY_NUMBER: Bounds = Bounds {
+    low: 0,
+    high: u64::MAX,
+};
+
 /// Each command, with its positional words and its options.
-pub static COMMANDS: [CommandRow; 3] = [
+pub static COMMANDS: [CommandRow; 5] = [
     CommandRow {
         command: CommandName::Answer,
         name: "answer",
         places: &[None, None],
-        options: &[
-            OptionRow {
-                name: "walks",
-                bounds: None,
-            },
-            OptionRow {
-                name: "levels",
-                bounds: None,
-            },
-            MOVES,
-        ],
+        options: &[WALKS, LEVELS, MOVES],
     },
     CommandRow {
         command: CommandName::Certify,
@@ -78,5 +98,17 @@ pub static COMMANDS: [CommandRow; 3] = [
         name: "check",
         places: &[None, None],
         options: &[],
+    },
+    CommandRow {
+        command: CommandName::Make,
+        name: "make",
+        places: &[Some(ANY_NUMBER)],
+        options: &[],
+    },
+    CommandRow {
+        command: CommandName::Serve,
+        name: "serve",
+        places: &[None, None],
+        options: &[WORKERS, WALKS, LEVELS, MOVES],
     },
 ];

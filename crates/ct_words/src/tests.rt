@@ -17,6 +17,8 @@ fn name_of(command: CommandName) -> &'static str {
         CommandName::Answer => "answer",
         CommandName::Certify => "certify",
         CommandName::Check => "check",
+        CommandName::Make => "make",
+        CommandName::Serve => "serve",
     }
 }
 
@@ -66,6 +68,13 @@ fn commands_and_usage(rt: HostRuntime) -> Result<(), Fail> {
         ),
         ("certify 7 0", "certify 7 #0"),
         ("check K L", "check K L"),
+        ("make 0", "make #0"),
+        ("make 18446744073709551615", "make #18446744073709551615"),
+        (
+            "serve K S --workers=16 --levels --moves 4096 --walks",
+            "serve K S --workers=16 --levels --moves=4096 --walks",
+        ),
+        ("serve --workers 0 K S", "serve K S --workers=0"),
         ("answer K S --walks --walks", "usage"),
         ("answer K S --moves 2 --moves=2", "usage"),
         ("answer K S -w", "usage"),
@@ -74,6 +83,11 @@ fn commands_and_usage(rt: HostRuntime) -> Result<(), Fail> {
         ("answer K S --workers 2", "usage"),
         ("check K L --moves 2", "usage"),
         ("make 18446744073709551616", "usage"),
+        ("make", "usage"),
+        ("make K", "usage"),
+        ("make 1 --moves 2", "usage"),
+        ("serve K S --workers 17", "usage"),
+        ("serve K", "usage"),
         ("answer K S --moves", "usage"),
         ("answer --moves -- K S", "usage"),
         ("answer K S --moves --walks", "usage"),

@@ -5,7 +5,7 @@ use Rattle.ct_instance.specs.TestSet.{test_list}
 use Rattle.ct_instance.specs.Versions.{version_list}
 use Rattle.ct_version.specs.Editions.{Edition}
 use Rattle.ct_book.specs.Books.{BookSeen, IsCompleted}
-use Rattle.ct_run.proofs.Completed.{opened, completed_list}
+use Rattle.ct_answer.proofs.Completed.{opened, completed_list}
 use Rattle.ct_run.proofs.certifying.certify_ending.Goals as goal
 
 pub ledger_ending-requires-clause-list : goal.ledger_ending-requires-clause-list

@@ -1,4 +1,4 @@
-use Rattle.ct_run.proofs.Completed.{full_exact}
+use Rattle.ct_run.proofs.FullGrades.{full_exact}
 use Rattle.ct_run.proofs.laws.full_is_exact.Goals as goal
 
 pub returns : goal.returns

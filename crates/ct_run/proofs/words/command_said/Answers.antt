@@ -5,4 +5,4 @@ use Rattle.ct_run.proofs.words.command_said.Goals as goal
 
 pub returns-in_ok-instance-in-Certify-clause-within : goal.returns-in_ok-instance-in-Certify-clause-within
 returns-in_ok-instance-in-Certify-clause-within c =
-    (grade-within (map place_seen c.args.said.now.places.items) c.in_ok-instance-in-Certify.instance.now c.in_ok-instance-in-Certify.grade c.requires.places (sym (search rules)), c.limit_of-moves.ensures.within)
+    (grade-within c.args.said.now.command (map place_seen c.args.said.now.places.items) c.in_ok-instance-in-Certify.instance.now c.in_ok-instance-in-Certify.grade (search rules) c.requires.places (sym (search rules)), c.limit_of-moves.ensures.within)

@@ -56,5 +56,5 @@ grade_more p o phases k grade next phase inside is so_far next_is =
     let c : Case = case_at p o in
     let front : List Phase = map phase_with_solves (take k phases) in
     next_is ∙ sym (grade_told p o grade phase) ∙ ap (λ g. grade_after c g (phase_with_solves phase)) so_far
-        ∙ sym (grade_pushed c 0 front (phase_with_solves phase))
-        ∙ ap (grade_upto c 0) (sym (map_push phase_with_solves (take k phases) phase) ∙ ap (map phase_with_solves) (one_more phases k phase inside is))
+    ∙ sym (grade_pushed c 0 front (phase_with_solves phase))
+    ∙ ap (grade_upto c 0) (sym (map_push phase_with_solves (take k phases) phase) ∙ ap (map phase_with_solves) (one_more phases k phase inside is))

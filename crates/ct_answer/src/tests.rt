@@ -263,12 +263,7 @@ fn moves_at_the_end(rt: HostRuntime) -> Result<(), Fail> {
             3,
             Finished::Upto(9),
         ),
-        (
-            "sessions 1 phase 21 phase 0 end",
-            4096,
-            5,
-            Finished::All,
-        ),
+        ("sessions 1 phase 21 phase 0 end", 4096, 5, Finished::All),
         (
             "sessions 1 phase 0 session solve 6 end",
             2,
@@ -277,7 +272,10 @@ fn moves_at_the_end(rt: HostRuntime) -> Result<(), Fail> {
         ),
         ("sessions 1 end", 1, 0, Finished::Upto(2)),
     ] {
-        assert!(rt; extent_of(rt.alloc(), sessions, limit) == Some(Extent { moves, level }), "{sessions}");
+        assert!(rt;
+            extent_of(rt.alloc(), sessions, limit) == Some(Extent { moves, level }),
+            "{sessions}"
+        );
     }
     Ok(())
 }

@@ -42,7 +42,7 @@ made_few number =
 
 -- what is answered to what was made
 module _ (number : ℕ) (i : Problem) (script : Script) (report : Report) (made : i ≡ made_instance number) (asked : script ≡ made_script number)
-  (legal : IsLegalAnswered (plain_case i MOVE_LIMIT false false) script report) where
+    (legal : IsLegalAnswered (plain_case i MOVE_LIMIT false false) script report) where
   pub made_legal : IsLegalAnswered (made_case number) (made_script number) report
   made_legal = subst (λ (p : Problem). IsLegalAnswered (plain_case p MOVE_LIMIT false false) (made_script number) report) made
       (subst (λ (s : Script). IsLegalAnswered (plain_case i MOVE_LIMIT false false) s report) asked legal)

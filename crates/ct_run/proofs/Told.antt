@@ -65,8 +65,8 @@ rows_said = (
         (λ words places given is. let x = number_alone _ words places is in (_, ap (option_map make) x.1)),
         (
           (λ words places given is.
-            let x = two_said words places is in
-            (_, ap (option_map (λ names. serve names.0 names.1 (workers_in given) (has_name (codes "walks") given) (has_name (codes "levels") given) (limit_in given))) x.1)),
+              let x = two_said words places is in
+              (_, ap (option_map (λ names. serve names.0 names.1 (workers_in given) (has_name (codes "walks") given) (has_name (codes "levels") given) (limit_in given))) x.1)),
           tt,
         ),
       ),

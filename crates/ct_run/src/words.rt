@@ -24,18 +24,28 @@ pub enum Work<'a> {
         moves: u32,
     },
     /// Prints the ledger of a grade.
-    Certify { grade: u64, moves: u32 },
+    Certify {
+        grade: u64,
+        moves: u32,
+    },
     /// Checks a ledger.
-    Check { ledger: &'a str },
+    Check {
+        ledger: &'a str,
+    },
 }
 
 /// A command, with the names of its files.
 #[derive(Clone, Copy, Debug)]
 pub enum Command<'a> {
     /// Works on the instance of a file.
-    On { instance: &'a str, work: Work<'a> },
+    On {
+        instance: &'a str,
+        work: Work<'a>,
+    },
     /// Answers the requests of the input that is made of a number.
-    Make { number: u64 },
+    Make {
+        number: u64,
+    },
     /// Answers the requests of a session file by sessions and workers that share a book.
     Serve {
         instance: &'a str,

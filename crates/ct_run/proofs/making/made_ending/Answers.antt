@@ -29,8 +29,7 @@ pub returns : goal.returns
 returns c =
     let i : Problem = arc_value c.in_ok-shared.field-0 in
     let same : i ≡ made_instance c.args.number = c.in_ok-shared.ensures ∙ c.in_ok-inst.ensures.instance in
-    let reached = c.in_ok-report.extent in
-    (
+    let reached = c.in_ok-report.extent in (
       refl,
       record {
         report = c.in_ok-report.report;

@@ -98,6 +98,7 @@ impl Solver {
         ensures place { self.new ≡ self.old }
         ensures line { IfOk result (IsSolveLine self.old.instance self.old.limit walks (answer_of self.old.instance b.now) b.now) }
     {
+        // Called for what it ensures: the rows of an instance are within their limit.
         let _rows = self.rows();
         match self.book.complete(alloc, 0, sum(b)) {
             Ok(helped) => answered(alloc, &helped.version, b, walks),

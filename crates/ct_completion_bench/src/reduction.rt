@@ -60,6 +60,7 @@ fn walk_both(inst: &Instance, moves: &Moves, job: Job, first: &mut Point, second
     requires first_point { IsPoint inst.now first.old }
     requires second_point { IsPoint inst.now second.old }
 {
+    // Called for what it ensures: these are moves of an instance within the limits.
     let _inst = moves.instance();
     ends_into(inst, moves, job, first, second);
     walk_end(moves, first);

@@ -89,6 +89,7 @@ impl LockedBook {
         ensures count { slice_index (counts_of self.new) by ≡ slice_index (counts_of self.old) by + rise_of result }
     {
         let done = self.book.commit(by, r);
+        // Called for what it says of the book alone.
         let _entries = self.book.entries(by);
         done
     }

@@ -56,6 +56,7 @@ impl Newest {
         ensures value { result ≡ placed (arc_value version) limit }
         ensures small { result.number < 2 ^ 62 }
     {
+        // Called for what it ensures: numbers of versions are small.
         let _number = version.number();
         Newest { version, limit }
     }

@@ -229,6 +229,11 @@ fn options_of_an_answer(rt: HostRuntime) -> Result<(), Fail> {
             "phase 1\nsession 1\noptimum 9 at 0 3\nwalk 1*5 5*1\ninfeasible short 1\nwalk 1*2\n",
         ),
         (
+            &["answer", "K", "S", "--walks"][..],
+            "{\"sessions\":1,\"phases\":[{\"target\":0,\"sessions\":[[{\"solve\":[15]},{\"ask\":[7]}]]}]}",
+            "phase 1\nsession 1\noptimum 9 at 0 3\nwalk 1*5 5*1\ninfeasible short 1\nwalk 1*2\n",
+        ),
+        (
             &["answer", "K", "S", "--levels"][..],
             "sessions 1 phase 0 session solve 8 ask 9 ask 10 end",
             "phase 1\nsession 1\noptimum 5 at 1 1\noptimum 6 at 3 0\noptimum 6 at 0 2\nlevel 10\n",

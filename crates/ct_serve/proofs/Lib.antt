@@ -1,1 +1,7 @@
-pub mod LegalLines
+pub mod WorkedFor
+pub mod ReachedGrades
+pub mod DealtParts
+pub mod CollectedParts
+pub mod ServedPhases
+pub mod PartFacts
+pub mod Opening

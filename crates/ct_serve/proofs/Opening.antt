@@ -1,0 +1,28 @@
+-- The passes of a host that is opened.
+use Rattle.std.proofs.Common.{ℕ, ◌+◌, ◌≡◌, zero, suc, List, [], ◌∷◌, ◌++◌, length, map, All, Some, refl, sym, subst, ◌∙◌, ap, arith}
+use Rattle.std.proofs.lemmas.List.{length-append, length-map}
+use Rattle.std.proofs.lemmas.List.Elements.{All-map, All-pop}
+use Rattle.ct_instance.specs.Made.{indices}
+use Rattle.ct_host.specs.Hosts.{HostSeen, PassSeen, IsOfHost, fresh_pass}
+
+length-indices : (n : ℕ) → length (indices n) ≡ n
+length-indices zero = refl
+length-indices (suc n) =
+    let more : length (indices n ++ n ∷ []) ≡ length (indices n) + 1 = length-append (indices n) (n ∷ []) in
+    let rest : length (indices n) ≡ n = length-indices n in
+    let all : length (indices n ++ n ∷ []) ≡ suc n = omega (arith, more, rest) in
+    all
+
+pub opened_count : (host : HostSeen) (n : ℕ) → length (map (fresh_pass host.key) (indices n)) ≡ n
+opened_count host n = length-map (indices n) (fresh_pass host.key) ∙ length-indices n
+
+pub opened_own : (host : HostSeen) (n : ℕ) → All (IsOfHost host) (map (fresh_pass host.key) (indices n))
+opened_own host n = All-map (IsOfHost host) (fresh_pass host.key) (indices n) (λ k d inside. refl)
+
+-- one of them and the others
+pub opened_split : (host : HostSeen) (n : ℕ) (old new : List PassSeen) (main : PassSeen) → old ≡ map (fresh_pass host.key) (indices n) → old ≡ new ++ main ∷ [] →
+    IsOfHost host main × All (IsOfHost host) new × (length new + 1 ≡ n)
+opened_split host n old new main are is =
+    let own = All-pop (IsOfHost host) old new (Some main) is (subst (All (IsOfHost host)) (sym are) (opened_own host n)) in
+    let count : length new + 1 ≡ n = sym (length-append new (main ∷ [])) ∙ ap length (sym is ∙ are) ∙ opened_count host n in
+    (own.1, own.0, count)

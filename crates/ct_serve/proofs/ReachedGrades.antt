@@ -1,0 +1,38 @@
+-- What help gives has reached the grade.
+use Rattle.std.proofs.Common.{ℕ, ◌-◌, ◌≤◌, ◌≡◌, ⊎_elim, sym, ap, subst, ◌∙◌}
+use Rattle.std.proofs.lemmas.Bool.{cases_lt}
+use Rattle.std.specs.Arc.{arc_value}
+use Rattle.ct_instance.specs.Versions.{Covers, upto}
+use Rattle.ct_instance.specs.Reach.{first_version_from}
+use Rattle.ct_levels.proofs.Levels.{levels_rise}
+use Rattle.ct_levels.proofs.Covering.{first_version_is}
+use Rattle.ct_levels.proofs.Reach.{reach_when_full, reach_when_room}
+use Rattle.ct_version.specs.declared.finished.Finished.TheVariants.{Upto}
+use Rattle.ct_version.specs.declared.pins.Helped.{Helped}
+use Rattle.ct_version.specs.declared.pins.FullMark.{FullMark}
+use Rattle.ct_version.specs.Desks.{Place, IsHelp, IsFullMark}
+use Rattle.ct_session.specs.Shown.{HasReached}
+use Rattle.ct_answer.proofs.ToldReports.{reach_helped, reach_marked}
+use Rattle.ct_serve.specs.Served.{IsHeld}
+
+help_reaches : (p : Place) (g : ℕ) (h : Helped) → IsHelp p g h → HasReached p g (arc_value h.version).number
+help_reaches p g h help =
+    λ x c. levels_rise p.instance (first_version_from p.instance g) (arc_value h.version).number x first
+    (subst (λ l. Covers l x) (reach_when_room p.instance p.limit g help.open_to) c)
+  where
+    first : first_version_from p.instance g ≤ (arc_value h.version).number
+    first =
+        ⊎_elim (λ l. absurd ((first_version_is p.instance g).first (arc_value h.version).number l help.covers)) (λ l. l)
+        (cases_lt (arc_value h.version).number (first_version_from p.instance g))
+
+pub held_helped : (p : Place) (g : ℕ) (h : Helped) → IsHelp p g h → IsHeld p g (record { version = h.version; level = h.level })
+held_helped p g h help = record { version = help.version; reached = help_reaches p g h help; level = reach_helped p g h help }
+
+pub held_marked : (p : Place) (g : ℕ) (m : FullMark) (before : ℕ) → IsFullMark p g m → before ≡ m.grade - 1 →
+    IsHeld p g (record { version = m.version; level = Upto before })
+held_marked p g m before mark is =
+    record {
+      version = mark.version;
+      reached = λ x c. subst (λ l. Covers l x) (reach_when_full p.instance p.limit g m.grade mark.grade ∙ sym mark.finished) c;
+      level = ap upto is ∙ reach_marked p g m mark;
+    }

@@ -1,0 +1,20 @@
+use Rattle.std.proofs.Common.{◌<◌, ◌≤◌, ◌≡◌, max, length, ◌∙◌, arith}
+use Rattle.ct_vectors.specs.declared.limits.TheConstants.{GRADE_LIMIT}
+use Rattle.ct_input.specs.Script.{IsRequest}
+use Rattle.ct_answer.proofs.Pairing.{at_item, greatest_more}
+use Rattle.ct_serve.specs.Served.{worked_for}
+use Rattle.ct_serve.proofs.grades.raised_by.Goals as goal
+
+pub grade_of-requires-clause-request : goal.grade_of-requires-clause-request
+grade_of-requires-clause-request c =
+    let inside : c.loop-request.request-index < length c.args.requests.now = omega arith in
+    at_item (IsRequest c.args.rows) c.args.requests.now c.loop-request.request-index c.request-item.result inside c.request-item.is c.requires.requests
+
+pub loop-request-preserved : goal.loop-request-preserved
+loop-request-preserved c =
+    let inside : c.loop-request.request-index < length c.args.requests.now = omega arith in
+    let raised : c.max-top.result ≡ max c.loop-request.top (worked_for c.request-item.result) = omega (arith, c.max-top.ensures, c.grade_of.ensures.grade) in
+    record {
+      top = raised ∙ greatest_more worked_for c.args.requests.now c.loop-request.request-index c.loop-request.top c.args.grade c.request-item.result inside c.request-item.is c.loop-request.invariant.top;
+      limit = let low : c.loop-request.top ≤ GRADE_LIMIT = c.loop-request.invariant.limit in omega (arith, c.max-top.ensures, c.grade_of.ensures.limit, low);
+    }

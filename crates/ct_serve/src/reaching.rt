@@ -1,0 +1,46 @@
+//! What the main part holds.
+ghost use Rattle.std.specs.Prelude.{◌≡◌, ◌≤◌, IfOk};
+ghost use Rattle.ct_vectors.specs.declared.limits.TheConstants.{GRADE_LIMIT};
+ghost use Rattle.ct_book.specs.Benches.{desk_place};
+ghost use Rattle.ct_host.specs.Hosts.{IsOfHost};
+ghost use Rattle.ct_serve.specs.Served.{IsHeld};
+
+use ct_host::{Host, HostPass};
+use ct_version::{Finished, Stop, Version};
+use std::alloc::{AllocError, Global};
+use std::sync::{Arc, Wait};
+
+/// What the main part holds once a grade is worked for.
+#[derive(Drop)]
+pub struct Held {
+    /// A version that has reached what the limit on the number of moves allows for the grade.
+    pub version: Arc<Version>,
+    /// How far a completion for the grade comes.
+    pub level: Finished,
+}
+
+/// Helps up to a grade, or up to the mark before it.
+pub fn reach<R: Wait>(
+    rt: &R,
+    alloc: Global,
+    host: &Host,
+    pass: &mut HostPass,
+    grade: u64,
+) -> Result<Held, AllocError>
+    requires own { IsOfHost host.now pass.old }
+    requires grade { grade ≤ GRADE_LIMIT }
+    ensures own { IsOfHost host.now pass.new }
+    ensures held { IfOk result (IsHeld (desk_place host.now.place) grade) }
+{
+    match host.help(rt, alloc, pass, grade) {
+        Ok(helped) => Ok(Held {
+            version: helped.version,
+            level: helped.level,
+        }),
+        Err(Stop::Full(mark)) => Ok(Held {
+            level: Finished::Upto(mark.grade.saturating_sub(1)),
+            version: mark.version,
+        }),
+        Err(Stop::Memory) => Err(AllocError),
+    }
+}

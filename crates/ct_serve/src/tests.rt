@@ -1,10 +1,9 @@
 //! Reports of worked scripts that are served.
-ghost use Rattle.std.specs.Prelude.{◌≤◌};
-ghost use Rattle.ct_vectors.specs.declared.limits.TheConstants.{MOVE_LIMIT};
 
 use crate::serve_report;
 use ct_answer::Options;
 use ct_input::{read_instance, read_sessions};
+use ct_vectors::limits::MOVE_LIMIT;
 use ct_version::NoGate;
 use std::alloc::Global;
 use std::sync::{Arc, Wait};
@@ -47,11 +46,10 @@ fn told<R: Threads + Wait + Sync>(
     sessions: &str,
     workers: u32,
     options: Options,
-) -> Option<Vec<u8>>
-    requires workers { workers ≤ 16 }
-    requires some { 1 ≤ options.limit }
-    requires most { options.limit ≤ MOVE_LIMIT }
-{
+) -> Option<Vec<u8>> {
+    if workers > 16 || options.limit == 0 || options.limit as usize > MOVE_LIMIT {
+        return None;
+    }
     let inst = read_instance(alloc, instance.as_bytes()).ok()?;
     let script = read_sessions(alloc, inst.rows(), sessions.as_bytes()).ok()?;
     let shared = Arc::new(alloc, inst).ok()?;

@@ -15,6 +15,3 @@ mod running;
 mod serving;
 
 pub use serving::serve_report;
-
-#[cfg(test)]
-mod tests;

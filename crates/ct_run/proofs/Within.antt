@@ -13,8 +13,7 @@ use Rattle.ct_words.specs.Parts.{WordParts, with_place, with_given, joined, part
 use Rattle.ct_words.specs.Parts.{value_of as value_named}
 use Rattle.ct_words.specs.Said.{WordPlace, text, number, WordsSaid, place_of, places_of, told_of, named_of, said_of}
 use Rattle.ct_words.proofs.Loops.{parts-word}
-use Rattle.ct_vectors.specs.declared.limits.TheConstants.{GRADE_LIMIT, MOVE_LIMIT}
-use Rattle.ct_words.specs.declared.table.TheConstants.{WORKER_LIMIT}
+use Rattle.ct_vectors.specs.declared.limits.TheConstants.{GRADE_LIMIT, MOVE_LIMIT, WORKER_LIMIT}
 use Rattle.ct_words.specs.declared.table.CommandName.{CommandName}
 use Rattle.ct_words.specs.declared.table.CommandName.TheVariants.{Certify}
 use Rattle.ct_run.specs.Words.{IsLimit, IsNumberOf, IsPlaceWithin, IsValueOf, HasNumbersWithin, text_and_number}

@@ -1,8 +1,7 @@
 -- The command that the words are.
 use Rattle.std.specs.Prelude.{ℕ, ◌≤◌, ◌≡◌, Bool, List, [], ◌∷◌, Option, Some, None, option_map, unwrap_or, codes}
 use Rattle.std.specs.List.{AllByRecursion}
-use Rattle.ct_vectors.specs.declared.limits.TheConstants.{GRADE_LIMIT, MOVE_LIMIT}
-use Rattle.ct_words.specs.declared.table.TheConstants.{WORKER_LIMIT}
+use Rattle.ct_vectors.specs.declared.limits.TheConstants.{GRADE_LIMIT, MOVE_LIMIT, WORKER_LIMIT}
 use Rattle.ct_words.specs.Table.{commands}
 use Rattle.ct_words.specs.Role.{WordGiven, ◌>>=◌}
 use Rattle.ct_words.specs.Parts.{has_name, value_of}

@@ -4,7 +4,7 @@ ghost use Rattle.ct_words.specs.Role.{given_seen};
 ghost use Rattle.ct_words.specs.Said.{place_seen, seen as said_seen};
 ghost use Rattle.ct_run.specs.Words.{IsLimit, HasNumbersWithin, IsCommandWithin, limit_in, workers_in, two_texts as two_texts_of, text_and_number as text_and_number_of, one_number as one_number_of, as_command, command_of};
 ghost use Rattle.ct_run.specs.Commands.{seen};
-ghost use Rattle.ct_words.specs.declared.table.TheConstants.{WORKER_LIMIT};
+ghost use Rattle.ct_vectors.specs.declared.limits.TheConstants.{WORKER_LIMIT};
 
 use ct_vectors::limits::MOVE_LIMIT;
 use ct_words::{CommandName, Place, Said, said_in};

@@ -1,7 +1,7 @@
 //! A script is served.
 ghost use Rattle.std.specs.Prelude.{◌≡◌, ◌≤◌, ◌+◌, max, All, IfOk, length, vec_len};
 ghost use Rattle.std.specs.Arc.{arc_value};
-ghost use Rattle.ct_vectors.specs.declared.limits.TheConstants.{MOVE_LIMIT};
+ghost use Rattle.ct_vectors.specs.declared.limits.TheConstants.{MOVE_LIMIT, WORKER_LIMIT};
 ghost use Rattle.ct_input.specs.declared.limits.TheConstants.{SESSION_LIMIT};
 ghost use Rattle.ct_input.specs.Script.{IsPhase, IsScript};
 ghost use Rattle.ct_version.specs.Editions.{level_seen};
@@ -139,7 +139,7 @@ pub fn serve_report<R: Threads + Wait + Sync, G: Gate + Sync>(
     options: Options,
     gate: &G,
 ) -> Result<Report, AllocError>
-    requires workers { workers ≤ 16 }
+    requires workers { workers ≤ WORKER_LIMIT }
     requires some { 1 ≤ options.limit }
     requires most { options.limit ≤ MOVE_LIMIT }
     requires script { IsScript (arc_value inst.now).rows script.now }

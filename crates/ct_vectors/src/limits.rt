@@ -29,3 +29,6 @@ pub const JOB_GRADE_LIMIT: u64 = 2 * GRADE_LIMIT;
 
 /// The greatest number of moves that a list keeps.
 pub const MOVE_LIMIT: usize = 4_096;
+
+/// The greatest number of workers that complete a test set beside each other.
+pub const WORKER_LIMIT: u64 = 16;

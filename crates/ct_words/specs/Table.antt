@@ -1,10 +1,9 @@
 -- The table of commands.
 use Rattle.std.specs.Prelude.{ℕ, List, [], ◌∷◌, map, Option, Some, None, codes}
-use Rattle.ct_vectors.specs.declared.limits.TheConstants.{GRADE_LIMIT, MOVE_LIMIT}
+use Rattle.ct_vectors.specs.declared.limits.TheConstants.{GRADE_LIMIT, MOVE_LIMIT, WORKER_LIMIT}
 use Rattle.ct_words.specs.declared.table.Bounds.{Bounds}
 use Rattle.ct_words.specs.declared.table.CommandName.{CommandName}
 use Rattle.ct_words.specs.declared.table.CommandName.TheVariants.{Answer, Certify, Check, Make, Serve}
-use Rattle.ct_words.specs.declared.table.TheConstants.{WORKER_LIMIT}
 use Rattle.ct_words.specs.declared.table.OptionRow.{OptionRow}
 use Rattle.ct_words.specs.declared.table.CommandRow.{CommandRow}
 

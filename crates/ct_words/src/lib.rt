@@ -13,4 +13,4 @@ mod tests;
 
 pub use role::Given;
 pub use said::{Place, Said, said_by, said_in};
-pub use table::{Bounds, COMMANDS, CommandName, CommandRow, OptionRow, WORKER_LIMIT};
+pub use table::{Bounds, COMMANDS, CommandName, CommandRow, OptionRow};

@@ -1,9 +1,6 @@
 //! The table of commands: a row for each, with its positional words and its options.
 
-use ct_vectors::limits::{GRADE_LIMIT, MOVE_LIMIT};
-
-/// The greatest number of workers that a word may spell.
-pub const WORKER_LIMIT: u64 = 16;
+use ct_vectors::limits::{GRADE_LIMIT, MOVE_LIMIT, WORKER_LIMIT};
 
 /// A command of the program.
 #[derive(Clone, Copy, Debug)]

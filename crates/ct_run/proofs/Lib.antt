@@ -6,4 +6,5 @@ pub mod TooLong
 pub mod LedgerFiles
 pub mod FullGrades
 pub mod Summaries
+pub mod ReportLimits
 mod Worked

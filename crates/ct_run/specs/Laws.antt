@@ -1,9 +1,17 @@
 -- What a run comes to, exactly. Each statement is the contract of a function in the module `laws`.
-use Rattle.std.specs.Prelude.{ℕ, ◌≡◌, ◌≤◌, ◌<◌, ◌⊎◌, ◌↔◌, List, None, length}
+use Rattle.std.specs.Prelude.{ℕ, ◌≡◌, ◌≤◌, ◌<◌, ◌⊎◌, ◌↔◌, Bool, List, None, length}
 use Rattle.ct_input.specs.declared.limits.TheConstants.{LEDGER_FILE_LIMIT}
-use Rattle.ct_instance.specs.Instance.{Problem}
+use Rattle.ct_instance.specs.Instance.{Problem, IsInstance}
 use Rattle.ct_instance.specs.Versions.{IsFullGrade}
 use Rattle.ct_instance.specs.Reach.{full_grade_up_to}
+use Rattle.ct_vectors.specs.declared.limits.TheConstants.{MOVE_LIMIT}
+use Rattle.ct_input.specs.declared.script.Script.{Script}
+use Rattle.ct_input.specs.Script.{IsScript}
+use Rattle.ct_report.specs.declared.reports.Report.{Report}
+use Rattle.ct_report.specs.ReportText.{report_text}
+use Rattle.ct_report.specs.Limits.{IsCount, IsReport}
+use Rattle.ct_legal.specs.Cases.{plain_case}
+use Rattle.ct_legal.specs.Legal.{IsLegalServed, IsLegalAnswered}
 use Rattle.ct_ledger.specs.Parts.{LedgerParts, IsLedger}
 use Rattle.ct_ledger.specs.LedgerText.{ledger_text, IsLedgerText}
 use Rattle.ct_checker.specs.Checking.{verdict_of}
@@ -34,3 +42,22 @@ FullIsFullGrade = (i : Problem) (limit g f : ℕ) → (ledger_or_full i g (full_
 -- words are no command exactly where they are none by the table
 abbrev pub NoCommandByTable : Type 0
 NoCommandByTable = (words : List (List ℕ)) → (command_of words ≡ None) ↔ (said_of commands words ≡ None)
+
+-- ---- reports
+
+-- it is within the limits of reading, and no other report within them has its text
+pub record IsReadAs (report : Report) : Type 0 where
+  pub within : IsReport report
+  pub only : (other : Report) → IsReport other → report_text other ≡ report_text report → other ≡ report
+
+-- so is each report that is legal where asks may be answered or not yet
+abbrev pub ServedIsRead : Type 0
+ServedIsRead =
+    (i : Problem) → IsInstance i → (limit : ℕ) → limit ≤ MOVE_LIMIT → (walks levels : Bool) (script : Script) → IsScript i.rows script → IsCount (length script.phases) →
+    (report : Report) → IsLegalServed (plain_case i limit walks levels) script report → IsReadAs report
+
+-- and each where asks are taken as solves
+abbrev pub AnsweredIsRead : Type 0
+AnsweredIsRead =
+    (i : Problem) → IsInstance i → (limit : ℕ) → limit ≤ MOVE_LIMIT → (walks levels : Bool) (script : Script) → IsScript i.rows script → IsCount (length script.phases) →
+    (report : Report) → IsLegalAnswered (plain_case i limit walks levels) script report → IsReadAs report

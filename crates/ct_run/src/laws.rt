@@ -1,6 +1,6 @@
 //! Laws of what a run comes to, as contracts of functions that do nothing.
 
-ghost use Rattle.ct_run.specs.Laws.{LedgerIsWeighed, BadIsNoLedger, FullIsFullGrade, NoCommandByTable};
+ghost use Rattle.ct_run.specs.Laws.{LedgerIsWeighed, BadIsNoLedger, FullIsFullGrade, NoCommandByTable, ServedIsRead, AnsweredIsRead};
 
 /// Where a file within its limit is the text of a ledger, its check ends by the verdict on that ledger, and where it ends
 /// as a bad ledger the file is over its limit or the text of none.
@@ -17,4 +17,11 @@ pub fn full_is_exact()
 /// Words are no command exactly where the table says so.
 pub fn words_are_exact()
     ensures { NoCommandByTable }
+{}
+
+/// A legal report of a script, of which there may be as many phases as a list in memory has, is within the limits of
+/// reading, and the only report within them that has its text: so `Report::read` gives it back.
+pub fn legal_reports_are_read()
+    ensures served { ServedIsRead }
+    ensures answered { AnsweredIsRead }
 {}

@@ -9,7 +9,7 @@ use crate::{Extent, Options, answer, answer_counted};
 use ct_input::{Phase, Request, Script, read_instance, read_sessions};
 use ct_instance::Instance;
 use ct_point::Seq;
-use ct_report::PhaseReport;
+use ct_report::{PhaseReport, Report, ReportStop};
 use ct_session::Line;
 use ct_slow::least_by_listing;
 use ct_vectors::limits::MOVE_LIMIT;
@@ -23,6 +23,10 @@ const K: &str = "instance 1 rows 1 columns 2 matrix 3 5 cost 2 3 end";
 const COINS: &str = "instance 1 rows 1 columns 4 matrix 1 5 10 25 cost 1 1 1 1 end";
 
 const TIE: &str = "instance 1 rows 1 columns 2 matrix 1 1 cost 1 1 end";
+
+const TIE_THEN_SECOND: &str = "instance 1 rows 1 columns 2 matrix 1 1 cost 1 1 cost 0 1 end";
+
+const NOTHING_THEN_COINS: &str = "instance 1 rows 1 columns 2 matrix 3 5 cost 0 0 cost 2 3 end";
 
 const GAIN: &str = "instance 1 rows 1 columns 2 matrix 1 1 cost -1 0 end";
 
@@ -143,6 +147,18 @@ fn reports_of_scripts(rt: HostRuntime) -> Result<(), Fail> {
             "phase 1\nsession 1\noptimum 3 at 0 3\nwalk 1*3\n",
         ),
         (
+            TIE_THEN_SECOND,
+            WALKS,
+            "phase 0 session solve 3",
+            "phase 1\nsession 1\noptimum 3 0 at 3 0\nwalk 1*3\n",
+        ),
+        (
+            NOTHING_THEN_COINS,
+            WALKS,
+            "phase 0 session solve 15",
+            "phase 1\nsession 1\noptimum 0 9 at 0 3\nwalk 1*5 5*1\n",
+        ),
+        (
             GAIN,
             WALKS,
             "phase 0 session solve 2",
@@ -178,6 +194,32 @@ fn reports_of_scripts(rt: HostRuntime) -> Result<(), Fail> {
             None => panic!(rt; "row {row}"),
             Some(found) => assert!(rt; found.as_slice() == report.as_bytes(), "row {row}"),
         }
+    }
+    Ok(())
+}
+
+// A report is read back from its text, and its text without the last line has its fault there.
+#[test]
+fn a_report_is_read_back(rt: HostRuntime) -> Result<(), Fail> {
+    let alloc = rt.alloc();
+    let sessions = "sessions 1 phase 0 session solve 15 end";
+    let cut = b"report 1\nphase 1\nsession 1\noptimum 9 at 0 3\nwalk 1*5 5*1\n";
+    let mut whole = Vec::from_slice(alloc, cut.as_slice())?;
+    whole.extend_from_slice(b"end\n")?;
+    match told(alloc, K, sessions, WALKS) {
+        None => panic!(rt; "the script is answered"),
+        Some(text) => assert!(rt; text.as_slice() == whole.as_slice()),
+    }
+    match Report::read(alloc, whole.as_slice()) {
+        Err(_) => panic!(rt; "a report text"),
+        Ok(report) => {
+            let again = report.print(alloc)?;
+            assert!(rt; again.as_slice() == whole.as_slice());
+        }
+    }
+    match Report::read(alloc, cut.as_slice()) {
+        Ok(_) => panic!(rt; "a text without its end"),
+        Err(stop) => assert!(rt; stop == ReportStop::Fault { line: 6 }),
     }
     Ok(())
 }

@@ -1,8 +1,11 @@
 -- What is left of a host.
-use Rattle.std.specs.Prelude.{ℕ, ◌+◌, ◌≡◌, Some, List, [], ◌∷◌, All, map, length}
+use Rattle.std.specs.Prelude.{ℕ, ◌+◌, ◌<◌, ◌≡◌, Some, List, [], ◌∷◌, All, map, length}
 use Rattle.count_lock.specs.Sight.{LockPlace}
-use Rattle.ct_completion.specs.Journal.{entries_of, AreSerials}
+use Rattle.ct_completion.specs.declared.journals.Entry.{Entry}
+use Rattle.ct_completion.specs.Machine.{CompletionState}
+use Rattle.ct_completion.specs.Journal.{entries_of, AreSerials, Replays}
 use Rattle.ct_book.specs.Books.{BookSeen}
+use Rattle.ct_book.specs.Benches.{BenchPlace}
 use Rattle.ct_host.specs.Hosts.{HostKey, HostSeen, PassSeen}
 use Rattle.ct_host.specs.declared.closing.Closed.{Closed}
 
@@ -29,3 +32,10 @@ pub record IsClosed (passes : List PassSeen) (c : Closed) : Type 0 where
   pub steps : c.steps ≡ map (λ p. p.steps) passes
   pub counts : All (λ p. entries_of p.number c.journal ≡ p.steps) passes
   pub serials : AreSerials c.journal
+
+-- the journal of a completion of the place: each entry is of one of its passes, and from the opening on each is a step that
+-- is allowed; it replays to this state
+pub record IsJournalOf (p : BenchPlace) (journal : List Entry) : Type 0 where
+  pub passes : All (λ e. e.pass < p.passes) journal
+  pub state : CompletionState
+  pub replays : Replays p.instance p.limit journal state

@@ -1,7 +1,7 @@
 //! What is left of a host.
 ghost use Rattle.std.specs.Prelude.{◌≡◌, ◌≤◌, ◌<◌, [], None, length, map, vec_len, vec_capacity};
 ghost use Rattle.count_lock.specs.Sight.{IsOfLock};
-ghost use Rattle.ct_host.specs.Closing.{AreAllPasses, AreOfLock, IsClosed, pairs_of};
+ghost use Rattle.ct_host.specs.Closing.{AreAllPasses, AreOfLock, IsClosed, IsJournalOf, pairs_of};
 
 use crate::host::Host;
 use crate::locked::LockedBook;
@@ -13,7 +13,8 @@ use ct_point::Seq;
 /// The journal of a host, and the counts of its passes in the order of their numbers.
 #[derive(Drop)]
 pub struct Closed {
-    /// What was done, in order. Of each pass it has as many entries as the pass counts, with the serials 0, 1, 2 and so on.
+    /// What was done, in order. Of each pass it has as many entries as the pass counts, with the serials 0, 1, 2 and so on,
+    /// and no entry is of another pass. It replays: each entry is a step that the completion allows after those before it.
     pub journal: Seq<Entry>,
     /// How many entries are each pass's.
     pub steps: Seq<u64>,
@@ -50,7 +51,8 @@ fn joined(
 pub fn wind_up(host: Host, passes: Vec<HostPass>, steps: Vec<u64>) -> Closed
     requires all { AreAllPasses host passes.items }
     requires room { (steps.items ≡ []) × (vec_len passes ≤ vec_capacity steps) }
-    ensures { IsClosed passes.items result }
+    ensures closed { IsClosed passes.items result }
+    ensures journal { IsJournalOf host.place result.journal }
 {
     let Host {
         cell: _,

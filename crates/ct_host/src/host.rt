@@ -44,7 +44,7 @@ impl Host {
     ghost use Rattle.ct_book.specs.Benches.{desk_place};
     ghost use Rattle.ct_host.specs.Hosts.{IsOfHost, after_pin, fresh_pass};
     ghost use Rattle.ct_host.specs.Steps.{Helps, HasSeenHelp, HasSeenStop};
-    ghost use Rattle.ct_host.specs.Closing.{AreAllPasses, IsClosed};
+    ghost use Rattle.ct_host.specs.Closing.{AreAllPasses, IsClosed, IsJournalOf};
 
     /// A host at version 0, and its passes in the order of their numbers, for an instance, a limit of 1 to 4,096 moves and
     /// 1 to 33 passes. It takes the memory of a book that is opened, a cell, a lock and the passes.
@@ -136,6 +136,7 @@ impl Host {
     ) -> Result<Closed, (Host, Vec<HostPass>, AllocError)>
         requires { AreAllPasses self passes.items }
         ensures ok { IfOk result (IsClosed passes.items) }
+        ensures journal { IfOk result (λ c. IsJournalOf self.place c.journal) }
         ensures err { IfErr result (λ e. (e.0 ≡ self) × (e.1 ≡ passes)) }
     {
         match Vec::with_capacity(alloc, passes.len()) {

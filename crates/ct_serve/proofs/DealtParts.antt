@@ -1,5 +1,5 @@
 -- One part more is dealt.
-use Rattle.std.proofs.Common.{ℕ, ◌+◌, ◌-◌, ◌≤◌, ◌<◌, ◌≡◌, List, [], ◌∷◌, ◌++◌, length, map, take, All, refl, sym, ap, subst, ◌∙◌, arith}
+use Rattle.std.proofs.Common.{ℕ, suc, ◌+◌, ◌-◌, ◌≤◌, ◌<◌, ◌≡◌, List, [], ◌∷◌, ◌++◌, length, map, take, All, refl, sym, ap, subst, ◌∙◌, arith}
 use Rattle.std.proofs.lemmas.List.{map_push, append-nil, take_all, length-append, length-map}
 use Rattle.std.proofs.lemmas.List.Concat.{flat_map-append}
 use Rattle.std.proofs.lemmas.List.Elements.{All-push}
@@ -7,11 +7,13 @@ use Rattle.ct_vectors.specs.declared.limits.TheConstants.{GRADE_LIMIT}
 use Rattle.ct_input.specs.declared.script.Phase.{Phase}
 use Rattle.ct_input.specs.Script.{IsRequest}
 use Rattle.ct_host.specs.Hosts.{PassSeen}
-use Rattle.ct_answer.proofs.Pairing.{one_more, at_item}
+use Rattle.ct_instance.specs.Made.{indices}
+use Rattle.ct_answer.specs.Told.{AreEach}
+use Rattle.ct_answer.proofs.Pairing.{one_more, at_item, each_pushed}
 use Rattle.ct_serve.specs.declared.parts.Job.{Job}
 use Rattle.ct_serve.specs.declared.parts.Job.TheVariants.{Idle, Work, Run}
 use Rattle.ct_serve.specs.declared.parts.Part.{Part}
-use Rattle.ct_serve.specs.Served.{IsJobAt, IsJobIn, scripts_of, scripts_dealt}
+use Rattle.ct_serve.specs.Served.{IsJobAt, IsPartAt, IsJobIn, scripts_of, scripts_dealt}
 
 scripts_more : (phase : Phase) (workers index : ℕ) (job : Job) → IsJobAt phase workers index job →
     take (index - workers) phase.sessions ++ scripts_of job ≡ take (index + 1 - workers) phase.sessions
@@ -65,3 +67,23 @@ pub dealt_scripts : (phase : Phase) (workers : ℕ) (passes : List PassSeen) (pa
 dealt_scripts phase workers passes parts dealt enough =
     let count : length parts ≡ length passes = sym (length-map parts (λ (p : Part). p.pass)) ∙ ap length dealt.passes_are in
     dealt.scripts ∙ take_all (length parts - workers) phase.sessions (omega (arith, count, enough))
+
+-- the parts so far are in order, and the last of them has this number
+pub record AreInOrder (phase : Phase) (workers last : ℕ) (parts : List Part) : Type 0 where
+  pub last_is : last ≡ length parts
+  pub each : AreEach (IsPartAt phase workers) (indices (length parts)) parts
+
+pub none_in_order : (phase : Phase) (workers : ℕ) → AreInOrder phase workers 0 []
+none_in_order phase workers = record { last_is = refl; each = tt }
+
+pub more_in_order : (phase : Phase) (workers last : ℕ) (parts more : List Part) (part : Part) → AreInOrder phase workers last parts →
+    IsJobAt phase workers (length parts) part.job → part.who ≡ last + 1 → more ≡ parts ++ part ∷ [] → AreInOrder phase workers part.who more
+more_in_order phase workers last parts more part so_far at number pushed =
+    let here : part.who ≡ length parts + 1 = omega (arith, number, so_far.last_is) in
+    let longer : suc (length parts) ≡ length (parts ++ part ∷ []) = omega (arith, length-append parts (part ∷ [])) in
+    subst (AreInOrder phase workers part.who) (sym pushed)
+    (record {
+      last_is = omega (arith, here, longer);
+      each = subst (λ n. AreEach (IsPartAt phase workers) (indices n) (parts ++ part ∷ [])) longer
+          (each_pushed (IsPartAt phase workers) (indices (length parts)) parts (length parts) part so_far.each (record { number = here; job = at }));
+    })

@@ -72,6 +72,11 @@ IsJobAt phase workers index (Run requests) =
     (workers ≤ index) × (index - workers < length phase.sessions) × (requests.now ≡ get_or phase.sessions (index - workers) requests.now)
 IsJobAt phase workers index Idle = workers + length phase.sessions ≤ index
 
+-- the part with this index has the job of the index, and one more than the index as its number at the gate
+pub record IsPartAt (phase : Phase) (workers index : ℕ) (part : Part) : Type 0 where
+  pub number : part.who ≡ index + 1
+  pub job : IsJobAt phase workers index part.job
+
 -- where the phase is within its limits, the job is
 abbrev pub IsJobIn : Phase → Job → Type 0
 IsJobIn phase job = (rows : ℕ) → IsPhase rows phase → IsJob rows job

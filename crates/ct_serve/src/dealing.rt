@@ -1,6 +1,8 @@
 //! Jobs are dealt to passes.
-ghost use Rattle.std.specs.Prelude.{◌≡◌, ◌≤◌, ◌+◌, All, IfOk, length, map, vec_len};
-ghost use Rattle.ct_serve.specs.Served.{IsJobAt, IsJobIn, scripts_dealt};
+ghost use Rattle.std.specs.Prelude.{◌≡◌, ◌≤◌, ◌<◌, ◌+◌, ◌^◌, All, IfOk, length, map, vec_len};
+ghost use Rattle.ct_instance.specs.Made.{indices};
+ghost use Rattle.ct_answer.specs.Told.{AreEach};
+ghost use Rattle.ct_serve.specs.Served.{IsJobAt, IsPartAt, IsJobIn, scripts_dealt};
 
 use crate::parts::{Job, Part};
 use ct_host::HostPass;
@@ -36,6 +38,7 @@ pub fn deal<'a>(
     requires enough { workers + length phase.now.sessions ≤ vec_len passes }
     ensures passes { IfOk result (λ parts. map (λ part. part.pass) parts.items ≡ passes.items) }
     ensures scripts { IfOk result (λ parts. scripts_dealt parts.items ≡ phase.now.sessions) }
+    ensures in_order { vec_len passes < 2 ^ 32 → IfOk result (λ parts. AreEach (IsPartAt phase.now workers) (indices (length parts.items)) parts.items) }
     ensures jobs { IfOk result (λ parts. All (λ part. IsJobIn phase.now part.job) parts.items) }
 {
     let mut parts = Vec::with_capacity(alloc, passes.len())?;

@@ -14,7 +14,7 @@ use ct_run::Status;
 use std::process::ExitCode;
 
 fn main(rt: HostRuntime) -> ExitCode {
-    exit_code(run_program(&rt, &rt, &rt))
+    exit_code(run_program(&rt, &rt, &rt, &rt))
 }
 
 // The code of a status, with which the program ends.

@@ -1,14 +1,18 @@
 //! What `main` does, with any words, files and output.
 
 use ct_outside::{FileShelf, StdSink};
-use ct_run::{Status, run_plain};
+use ct_run::{Status, run};
+use ct_version::NoGate;
 use std::alloc::AllocError;
 use std::env;
 use std::io::ErrorKind;
 use std::rt::{Env, Files};
+use std::sync::Wait;
+use std::thread::Threads;
 
 /// Runs the command that the words after the program's name are.
-pub fn run_program<E: Env + AllocGlobal, F: Files, P: Print>(
+pub fn run_program<R: Threads + Wait + Sync, E: Env + AllocGlobal, F: Files, P: Print>(
+    rt: &R,
     env: &E,
     files: &F,
     output: &P,
@@ -19,7 +23,7 @@ pub fn run_program<E: Env + AllocGlobal, F: Files, P: Print>(
     };
     let mut shelf = FileShelf::new(files, alloc);
     let mut out = StdSink::new(output);
-    run_plain(alloc, &words, &mut shelf, &mut out)
+    run(rt, alloc, &words, &mut shelf, &mut out, &NoGate)
 }
 
 // None where one of them isn't UTF-8, since such words are no command.

@@ -94,7 +94,7 @@ fn each_status_of_a_run_on_files(rt: HostRuntime) -> Result<(), Fail> {
         fs::write(&rt, path, text)?;
     }
     let alloc = rt.alloc();
-    let runs: [(&[&[u8]], &str, u8); 13] = [
+    let runs: [(&[&[u8]], &str, u8); 15] = [
         (&[b"ct", b"answer", b"K", b"S"], REPORT, 0),
         (&[b"ct"], USAGE, 2),
         (&[b"ct", b"answer", b"K"], USAGE, 2),
@@ -117,6 +117,8 @@ fn each_status_of_a_run_on_files(rt: HostRuntime) -> Result<(), Fail> {
             "ledger 1\nsize 1 2\ngrade 0\nend\n",
             0,
         ),
+        (&[b"ct", b"serve", b"K", b"S", b"--workers=2"], REPORT, 0),
+        (&[b"ct", b"serve", b"K", b"S", b"--workers=17"], USAGE, 2),
         (&[b"ct", b"check", b"K", b"S"], "bad ledger: line 1\n", 8),
         (&[b"ct", b"check", b"K", b"L"], "refused: line 2 size\n", 9),
         (
@@ -129,7 +131,7 @@ fn each_status_of_a_run_on_files(rt: HostRuntime) -> Result<(), Fail> {
         let output = Wants {
             text: text.as_bytes(),
         };
-        let ended = exit_code(run_program(&Given { words, alloc }, &rt, &output));
+        let ended = exit_code(run_program(&rt, &Given { words, alloc }, &rt, &output));
         assert_eq!(rt;
             format!(in alloc; "{ended:?}")?,
             format!(in alloc; "{:?}", ExitCode::from(code))?,

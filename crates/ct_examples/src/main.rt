@@ -1,5 +1,5 @@
 //! Answers each example in a folder by its real files, and compares what is written with the example's output.txt, and
-//! with walks with its walks.txt.
+//! with walks with its walks.txt. Each is served by two workers too, where an ask may be told that it came too early.
 //!
 //! The one argument is the folder of examples. The gate gives it this crate's data/, to which `examples/` links. The
 //! two files of an example are texts, `.txt`, or JSON, `.json`.
@@ -7,18 +7,20 @@
 
 use anyhow::{Context, Result};
 use ct_outside::{FileShelf, MemSink};
-use ct_run::{Status, run_plain};
+use ct_run::{Status, run};
+use ct_version::NoGate;
 use std::alloc::Global;
 use std::rt::Files;
-use std::{env, fs};
+use std::sync::Wait;
+use std::thread::Threads;
+use std::{env, fs, str};
 
-// Whether `ct answer` with these options ends with Done for the example in this folder, and writes what this file has.
-fn is_answered<R: Files + AllocGlobal>(
+// What `ct` writes for the example in this folder by a command and its options, where it ends with Done.
+fn written<R: Files + AllocGlobal + Threads + Wait + Sync>(
     rt: &R,
     folder: &str,
-    options: &[&str],
-    stored: &str,
-) -> Result<bool> {
+    command: &[&str],
+) -> Result<Option<MemSink>> {
     let alloc = rt.alloc();
     let form = if fs::exists(rt, format!(in alloc; "{folder}/instance.json")?)? {
         "json"
@@ -26,16 +28,51 @@ fn is_answered<R: Files + AllocGlobal>(
         "txt"
     };
     let mut words = Vec::new(alloc);
-    words.push(String::from_str(alloc, "answer")?)?;
-    for option in options {
-        words.push(String::from_str(alloc, option)?)?;
+    for word in command {
+        words.push(String::from_str(alloc, word)?)?;
     }
     words.push(format!(in alloc; "{folder}/instance.{form}")?)?;
     words.push(format!(in alloc; "{folder}/sessions.{form}")?)?;
-    let wanted = fs::read(rt, format!(in alloc; "{folder}/{stored}")?)?;
+    let mut shelf = FileShelf::new(rt, alloc);
     let mut out = MemSink::new(alloc, 4096, 1_048_576)?;
-    let status = run_plain(alloc, &words, &mut FileShelf::new(rt, alloc), &mut out);
-    Ok(status == Status::Done && out.held() == wanted.as_slice())
+    let status = run(rt, alloc, &words, &mut shelf, &mut out, &NoGate);
+    Ok(if status == Status::Done {
+        Some(out)
+    } else {
+        None
+    })
+}
+
+// Whether each line is the one that is stored, or says that an ask came too early.
+fn is_served_as(served: &str, stored: &str) -> bool {
+    served.lines().count() == stored.lines().count()
+        && served
+            .lines()
+            .zip(stored.lines())
+            .all(|(told, line)| told == line || told.starts_with("notyet "))
+}
+
+// Whether the example in this folder is answered, and served by two workers, as its files say.
+fn is_as_stored<R: Files + AllocGlobal + Threads + Wait + Sync>(
+    rt: &R,
+    folder: &str,
+) -> Result<bool> {
+    let alloc = rt.alloc();
+    let output = fs::read_to_string(rt, format!(in alloc; "{folder}/output.txt")?)?;
+    let walks = fs::read_to_string(rt, format!(in alloc; "{folder}/walks.txt")?)?;
+    for (command, stored) in [
+        (&["answer"][..], &output),
+        (&["answer", "--walks"][..], &walks),
+    ] {
+        match written(rt, folder, command)? {
+            Some(out) if out.held() == stored.as_bytes() => {}
+            _ => return Ok(false),
+        }
+    }
+    match written(rt, folder, &["serve", "--workers", "2"])? {
+        Some(out) => Ok(is_served_as(str::from_utf8(out.held())?, output.as_str())),
+        None => Ok(false),
+    }
 }
 
 fn main(rt: HostRuntime) -> Result<()> {
@@ -48,8 +85,7 @@ fn main(rt: HostRuntime) -> Result<()> {
     names.sort()?;
     for name in &names {
         let example = format!(in alloc; "{folder}/{name}")?;
-        let plain = is_answered(&rt, example.as_str(), &[], "output.txt")?;
-        let said = if plain && is_answered(&rt, example.as_str(), &["--walks"], "walks.txt")? {
+        let said = if is_as_stored(&rt, example.as_str())? {
             "answered as stored"
         } else {
             "answered otherwise"

@@ -15,16 +15,17 @@ use Rattle.ct_run.specs.declared.ending.Ending.{Ending}
 use Rattle.ct_run.specs.declared.status.Status.{Status}
 use Rattle.ct_run.specs.declared.status.Status.TheVariants as statuses
 use Rattle.ct_run.specs.declared.stop.Stop.{Stop}
-use Rattle.ct_run.specs.declared.stop.Stop.TheVariants.{ReadFault, Memory}
+use Rattle.ct_run.specs.declared.stop.Stop.TheVariants.{Refused, ReadFault, Memory}
 use Rattle.ct_run.specs.Outcome.{RunOutcome, usage, bad_instance, bad_sessions, answered, certified, full, checked, made, served, IsEnding, Wrote, WroteFront, is_stop, IsUnlessStopped, IsUnlessMemory}
 use Rattle.ct_run.specs.Plan.{Plan, ends, asks}
 use Rattle.ct_run.specs.Running.{Ends, WouldEnd, ComesTo, Runs, HasReadFault, NoReadFault}
-use Rattle.ct_run.specs.Stopping.{Fits, StoppedBy, EndedBy, Ran, stop_status}
+use Rattle.ct_run.specs.Stopping.{Fits, StoppedBy, EndedBy, Ran}
 use Rattle.ct_run.proofs.Runs.{ends-map, ends-some, would_end, would_end-all, runs-ends, runs-cause, runs-others, runs-map}
 
 -- a later count rose over more calls, too
 pub stopped-along : (result : Result Ending Stop) (before mid now : ℕ) → before ≤ mid → StoppedBy result mid now → StoppedBy result before now
 stopped-along (Ok ending) before mid now up h = h
+stopped-along (Err (Refused ending)) before mid now up h = h
 stopped-along (Err ReadFault) before mid now up h = omega arith
 stopped-along (Err Memory) before mid now up h = tt
 
@@ -80,26 +81,22 @@ module _ (plan : Plan) (told : List ℕ → Told) (before now : List ℕ → ℕ
   pub any_status : (status : Status) → is_stop status ≡ true → WouldEnd plan told (IsUnlessStopped status)
   any_status status stops = would_end-all plan told (IsUnlessStopped status) (λ outcome own. absurd (cc))
 
-  pub stop_exactly : (stop : Stop) (status : Status) → status ≡ stop_status stop → WouldEnd plan told (IsUnlessStopped status)
-  stop_exactly ReadFault status same = any_status status (ap is_stop same)
-  stop_exactly Memory status same = any_status status (ap is_stop same)
-
-  stop_cause : Ran plan told before now (Err ReadFault) → HasReadFault plan told before now
+  pub stop_cause : Ran plan told before now (Err ReadFault) → HasReadFault plan told before now
   stop_cause ran =
       runs-map told before now (EndedBy (Err ReadFault)) (λ outcome. ⊥) (λ name. StoppedBy (Err ReadFault) (before name) (now name)) (λ name. Rose (before name) (now name)) [] plan
       (λ outcome h. h) (λ name h. h) ran
 
-  pub read_fault_cause : (stop : Stop) (status : Status) → status ≡ stop_status stop → Ran plan told before now (Err stop) → status ≡ statuses.ReadFault → HasReadFault plan told before now
-  read_fault_cause ReadFault status same ran failed = stop_cause ran
-  read_fault_cause Memory status same ran failed = absurd (cc)
-
-  -- where no file that the plan comes to has a fault, want of memory is the one stop
-  pub stop_complete : (stop : Stop) (status : Status) → status ≡ stop_status stop → Ran plan told before now (Err stop) → NoReadFault plan told before now →
-      WouldEnd plan told (IsUnlessMemory status)
-  stop_complete ReadFault status same ran none =
+  -- where no file that the plan comes to has a fault, none stopped it
+  pub stop_complete : (P : RunOutcome → Type 0) → Ran plan told before now (Err ReadFault) → NoReadFault plan told before now → WouldEnd plan told P
+  stop_complete P ran none =
       let cause = runs-cause told before now (λ outcome. ⊥) (λ name. Rose (before name) (now name)) [] plan (λ outcome h. h) (stop_cause ran) in
       absurd (none cause.0 cause.1.0 cause.1.1)
-  stop_complete Memory status same ran none = would_end-all plan told (IsUnlessMemory status) (λ outcome. inr same)
+
+  -- a run that ends with the line of a fault is one that ends
+  pub refused_ends : (ending : Ending) → Ran plan told before now (Err (Refused ending)) → Ran plan told before now (Ok ending)
+  refused_ends ending ran =
+      runs-map told before now (EndedBy (Err (Refused ending))) (EndedBy (Ok ending)) (λ name. StoppedBy (Err (Refused ending)) (before name) (now name)) (λ name. StoppedBy (Ok ending) (before name) (now name)) [] plan
+      (λ outcome h. h) (λ name h. h) ran
 
   pub in_order : (result : Result Ending Stop) → Ran plan told before now result → Runs told before now (λ outcome. ⊤) (λ name. ⊤) plan
   in_order result ran =

@@ -2,6 +2,8 @@ pub mod Within
 pub mod Told
 pub mod Runs
 pub mod Endings
+pub mod Followed
+pub mod Readings
 pub mod TooLong
 pub mod LedgerFiles
 pub mod FullGrades

@@ -21,8 +21,9 @@ use Rattle.ct_checker.specs.declared.verdicts.Verdict.{Verdict}
 use Rattle.ct_checker.specs.declared.verdicts.Verdict.TheVariants.{Accepted, Refused}
 use Rattle.ct_checker.specs.Checking.{verdict_of}
 use Rattle.ct_run.specs.Checked.{IsVerdictEnding, IsChecked, over, faulty, weighed}
-use Rattle.ct_run.specs.Outcome.{bad_instance, bad_sessions, answered, IsEnding, Wrote}
-use Rattle.ct_run.specs.Plan.{ends, by_value, case_of, ledger_or_full, work_plan, instance_plan, plan_of, plain_of}
+use Rattle.ct_answer.specs.declared.options.Options.{Options}
+use Rattle.ct_run.specs.Outcome.{bad_instance, bad_sessions, answered, served, IsEnding, Wrote}
+use Rattle.ct_run.specs.Plan.{ends, by_value, case_of, ledger_or_full, serve_plan, work_plan, instance_plan, plan_of}
 use Rattle.ct_run.specs.Running.{HasBytes, Ends}
 
 zero_column_line : IsEnding (bad_instance (Text 5 3 ZeroColumn)) BadInstance (codes "bad instance: line 5 column 3: zero column" ++ newline)
@@ -102,9 +103,21 @@ no_usage : (read : Result Problem Fault) (work : Work) (told : List ℕ → Told
 no_usage (Ok i) work told old new wrote = no_usage_by_work work i told old new wrote
 no_usage (Err fault) work told old new wrote = let no : Usage ≡ BadInstance = wrote.1.0.0 in cc
 
-usage_only : (command : Option Command) (told : List ℕ → Told) (old new : Option (List ℕ)) → Ends (plan_of (plain_of command)) told (Wrote Usage old new) → plain_of command ≡ None
+no_usage_served : (read : Result Script Fault) (c : Case) (told : List ℕ → Told) (old new : Option (List ℕ)) →
+    Ends (by_value bad_sessions (λ script. ends (served c script)) read) told (Wrote Usage old new) → ⊥
+no_usage_served (Ok script) c told old new wrote = let no : Usage ≡ Done = wrote.1.0.0 in cc
+no_usage_served (Err fault) c told old new wrote = let no : Usage ≡ BadSessions = wrote.1.0.0 in cc
+
+no_usage_by_serving : (read : Result Problem Fault) (options : Options) (sessions : List ℕ) (told : List ℕ → Told) (old new : Option (List ℕ)) →
+    Ends (by_value bad_instance (λ i. serve_plan sessions (case_of options i)) read) told (Wrote Usage old new) → ⊥
+no_usage_by_serving (Ok i) options sessions told old new wrote =
+    of_bytes (told sessions) _ ⊥ (λ bytes. no_usage_served (session_file i.rows bytes) (case_of options i) told old new) wrote
+no_usage_by_serving (Err fault) options sessions told old new wrote = let no : Usage ≡ BadInstance = wrote.1.0.0 in cc
+
+usage_only : (command : Option Command) (told : List ℕ → Told) (old new : Option (List ℕ)) → Ends (plan_of command) told (Wrote Usage old new) → command ≡ None
 usage_only None told old new wrote = refl
 usage_only (Some (on instance work)) told old new wrote =
     absurd (of_bytes (told instance) _ ⊥ (λ bytes. no_usage (instance_file bytes) work told old new) wrote)
 usage_only (Some (make number)) told old new wrote = let no : Usage ≡ Done = wrote.1.0.0 in absurd (cc)
-usage_only (Some (serve instance sessions workers walks levels moves)) told old new wrote = refl
+usage_only (Some (serve instance sessions workers walks levels moves)) told old new wrote =
+    absurd (of_bytes (told instance) _ ⊥ (λ bytes. no_usage_by_serving (instance_file bytes) (record { limit = moves; walks = walks; levels = levels }) sessions told old new) wrote)

@@ -10,8 +10,9 @@ use Rattle.ct_input.specs.Script.{IsScript}
 use Rattle.ct_report.specs.declared.reports.Report.{Report}
 use Rattle.ct_report.specs.ReportText.{report_text}
 use Rattle.ct_report.specs.Limits.{IsCount, IsReport}
-use Rattle.ct_legal.specs.Cases.{plain_case}
+use Rattle.ct_legal.specs.Cases.{Case, plain_case}
 use Rattle.ct_legal.specs.Legal.{IsLegalServed, IsLegalAnswered}
+use Rattle.ct_legal.specs.Scripts.{HasNoAsks}
 use Rattle.ct_ledger.specs.Parts.{LedgerParts, IsLedger}
 use Rattle.ct_ledger.specs.LedgerText.{ledger_text, IsLedgerText}
 use Rattle.ct_checker.specs.Checking.{verdict_of}
@@ -21,7 +22,7 @@ use Rattle.ct_run.specs.declared.status.Status.{Status}
 use Rattle.ct_run.specs.declared.status.Status.TheVariants.{BadLedger}
 use Rattle.ct_run.specs.Words.{command_of}
 use Rattle.ct_run.specs.Checked.{IsVerdictEnding, IsChecked}
-use Rattle.ct_run.specs.Outcome.{full}
+use Rattle.ct_run.specs.Outcome.{full, IsReportOf, IsServedReportOf}
 use Rattle.ct_run.specs.Plan.{ledger_or_full}
 
 -- the file of a ledger is checked by the verdict on that ledger
@@ -42,6 +43,16 @@ FullIsFullGrade = (i : Problem) (limit g f : ℕ) → (ledger_or_full i g (full_
 -- words are no command exactly where they are none by the table
 abbrev pub NoCommandByTable : Type 0
 NoCommandByTable = (words : List (List ℕ)) → (command_of words ≡ None) ↔ (said_of commands words ≡ None)
+
+-- ---- serving
+
+-- for a script without asks and the same options a report that is served and one that is answered have the same bytes
+abbrev pub ServedAsAnswered : Type 0
+ServedAsAnswered = (c : Case) (script : Script) → HasNoAsks script → (text other : List ℕ) → IsServedReportOf c script text → IsReportOf c script other → text ≡ other
+
+-- and so do two that are served, by whatever workers
+abbrev pub ServedOneWay : Type 0
+ServedOneWay = (c : Case) (script : Script) → HasNoAsks script → (text other : List ℕ) → IsServedReportOf c script text → IsServedReportOf c script other → text ≡ other
 
 -- ---- reports
 

@@ -10,4 +10,5 @@ pub mod Forms
 pub mod Plan
 pub mod Running
 pub mod Stopping
+pub mod Following
 pub mod Laws

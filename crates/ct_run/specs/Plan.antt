@@ -2,6 +2,7 @@
 use Rattle.std.specs.Prelude.{ℕ, List, Option, Some, None, Result, Ok, Err, map, string_bytes, String}
 use Rattle.std.specs.declared.alloc.Global.{Global}
 use Rattle.ct_input.specs.declared.fault.Fault.{Fault}
+use Rattle.ct_input.specs.declared.script.Script.{Script}
 use Rattle.ct_run.specs.Forms.{instance_file, session_file}
 use Rattle.ct_instance.specs.Instance.{Problem}
 use Rattle.ct_instance.specs.Reach.{full_grade_up_to}
@@ -24,13 +25,17 @@ by_value refused go (Err fault) = ends (refused fault)
 abbrev pub reads : {A : Type 0} → List ℕ → (List ℕ → Result A Fault) → (Fault → RunOutcome) → (A → Plan) → Plan
 reads name value_of refused go = asks name (λ bytes. by_value refused go (value_of bytes))
 
+-- goes on with the script of a session file, for an instance with m rows
+abbrev pub script_plan : List ℕ → ℕ → (Script → Plan) → Plan
+script_plan name m go = reads name (session_file m) bad_sessions go
+
 -- answers the requests of a session file
 abbrev pub sessions_plan : List ℕ → Case → Plan
-sessions_plan sessions c = reads sessions (session_file (c.instance).rows) bad_sessions (λ script. ends (answered c script))
+sessions_plan sessions c = script_plan sessions (c.instance).rows (λ script. ends (answered c script))
 
 -- answers them by sessions and workers
 abbrev pub serve_plan : List ℕ → Case → Plan
-serve_plan sessions c = reads sessions (session_file (c.instance).rows) bad_sessions (λ script. ends (served c script))
+serve_plan sessions c = script_plan sessions (c.instance).rows (λ script. ends (served c script))
 
 -- the case of an instance with the options of `answer`
 abbrev pub case_of : Options → Problem → Case
@@ -54,6 +59,7 @@ work_plan (answer sessions walks levels moves) i = sessions_plan sessions (case_
 work_plan (certify grade moves) i = certify_plan grade moves i
 work_plan (check ledger) i = check_plan ledger i
 
+-- goes on with the instance of a file
 abbrev pub instance_plan : List ℕ → (Problem → Plan) → Plan
 instance_plan name go = reads name instance_file bad_instance go
 
@@ -67,13 +73,17 @@ abbrev pub plan_of : Option Command → Plan
 plan_of None = ends usage
 plan_of (Some command) = command_plan command
 
--- every command but `serve`, which is another call's
+-- every command but `serve`, which takes threads
 abbrev pub plain_of : Option Command → Option Command
 plain_of None = None
 plain_of (Some (on instance work)) = Some (on instance work)
 plain_of (Some (make number)) = Some (make number)
 plain_of (Some (serve instance sessions workers walks levels moves)) = None
 
--- the plan of the words after the program's name, of which those of `serve` are taken as none of a command
+-- the plan of the words after the program's name
 abbrev pub plan_in : List (String Global) → Plan
-plan_in words = plan_of (plain_of (command_of (map string_bytes words)))
+plan_in words = plan_of (command_of (map string_bytes words))
+
+-- the same, but the words of `serve` are taken as none of a command
+abbrev pub plain_plan_in : List (String Global) → Plan
+plain_plan_in words = plan_of (plain_of (command_of (map string_bytes words)))

@@ -1,8 +1,9 @@
 //! How a run ends before it writes.
-ghost use Rattle.std.specs.Prelude.{◌≡◌, IfOk};
+ghost use Rattle.std.specs.Prelude.{◌≡◌, ◌≤◌, IfOk};
 ghost use Rattle.std.specs.Arc.{arc_value};
+ghost use Rattle.ct_vectors.specs.declared.limits.TheConstants.{WORKER_LIMIT};
 ghost use Rattle.ct_run.specs.Words.{IsLimit};
-ghost use Rattle.ct_run.specs.Outcome.{usage, bad_instance, bad_sessions, answered, full};
+ghost use Rattle.ct_run.specs.Outcome.{usage, bad_instance, bad_sessions, answered, served, full};
 ghost use Rattle.ct_run.specs.Plan.{case_of};
 ghost use Rattle.ct_run.specs.Checked.{reason_text, accepted_text, refused_text, too_long_text, bad_line_text};
 ghost use Rattle.ct_run.specs.Stopping.{Fits};
@@ -14,9 +15,12 @@ use ct_checker::Reason;
 use ct_input::{Fault, Script, push_fault};
 use ct_instance::Instance;
 use ct_point::Seq;
+use ct_serve::serve_report;
 use ct_text::push_natural;
+use ct_version::Gate;
 use std::alloc::{AllocError, Global};
-use std::sync::Arc;
+use std::sync::{Arc, Wait};
+use std::thread::Threads;
 
 /// A status, and the text to be written with it.
 #[derive(Debug, Drop)]
@@ -58,6 +62,7 @@ pub fn bad_sessions_ending(alloc: Global, fault: &Fault) -> Result<Ending, Alloc
     })
 }
 
+/// The ending of `answer`.
 pub fn report_ending(
     alloc: Global,
     inst: &Arc<Instance>,
@@ -69,6 +74,28 @@ pub fn report_ending(
     ensures { IfOk result (λ ending. Fits (answered (case_of options (arc_value inst.now)) script.now) ending) }
 {
     let report = answer(alloc, Arc::try_clone(inst)?, script, options)?;
+    Ok(Ending {
+        status: Status::Done,
+        text: Seq::from_vec(report.print(alloc)?),
+    })
+}
+
+/// The ending of `serve` with so many workers.
+pub fn served_ending<R: Threads + Wait + Sync, G: Gate + Sync>(
+    rt: &R,
+    alloc: Global,
+    inst: &Arc<Instance>,
+    script: &Script,
+    workers: u32,
+    options: Options,
+    gate: &G,
+) -> Result<Ending, AllocError>
+    requires workers { workers ≤ WORKER_LIMIT }
+    requires limit { IsLimit options.limit }
+    requires script { IsScript (arc_value inst.now).rows script.now }
+    ensures { IfOk result (λ ending. Fits (served (case_of options (arc_value inst.now)) script.now) ending) }
+{
+    let report = serve_report(rt, alloc, inst, script, workers, options, gate)?;
     Ok(Ending {
         status: Status::Done,
         text: Seq::from_vec(report.print(alloc)?),

@@ -1,6 +1,6 @@
 //! Laws of what a run comes to, as contracts of functions that do nothing.
 
-ghost use Rattle.ct_run.specs.Laws.{LedgerIsWeighed, BadIsNoLedger, FullIsFullGrade, NoCommandByTable, ServedIsRead, AnsweredIsRead};
+ghost use Rattle.ct_run.specs.Laws.{LedgerIsWeighed, BadIsNoLedger, FullIsFullGrade, NoCommandByTable, ServedAsAnswered, ServedOneWay, ServedIsRead, AnsweredIsRead};
 
 /// Where a file within its limit is the text of a ledger, its check ends by the verdict on that ledger, and where it ends
 /// as a bad ledger the file is over its limit or the text of none.
@@ -17,6 +17,13 @@ pub fn full_is_exact()
 /// Words are no command exactly where the table says so.
 pub fn words_are_exact()
     ensures { NoCommandByTable }
+{}
+
+/// For a script without asks, `serve` and `answer` with the same options write the same bytes, and so do any two runs of
+/// `serve`.
+pub fn serving_solves_is_answering()
+    ensures answered { ServedAsAnswered }
+    ensures served { ServedOneWay }
 {}
 
 /// A legal report of a script, of which there may be as many phases as a list in memory has, is within the limits of

@@ -7,6 +7,7 @@
 //! a plan.
 #![tactic(auto)]
 
+mod calls;
 mod certifying;
 mod checking;
 mod ending;
@@ -14,14 +15,18 @@ pub mod laws;
 #[cfg(test)]
 mod ledger_tests;
 mod making;
+mod plain;
 mod reading;
-mod run;
+#[cfg(test)]
+mod serve_tests;
+mod serving;
 mod sharing;
 mod status;
 mod stop;
 #[cfg(test)]
 mod tests;
 mod words;
+mod writing;
 
-pub use run::run_plain;
+pub use calls::{run, run_plain};
 pub use status::Status;

@@ -1,19 +1,27 @@
 //! Files, fetched by their names, and read in either form.
-ghost use Rattle.std.specs.Prelude.{◌≡◌, ◌≤◌, ◌+◌, take, OnErr, IfOk, IfErr};
+ghost use Rattle.std.specs.Prelude.{◌≡◌, ◌≤◌, ◌+◌, Err, take, OnErr, IfOk, IfErr};
+ghost use Rattle.std.specs.Arc.{arc_value};
+ghost use Rattle.ct_instance.specs.Instance.{Problem};
+ghost use Rattle.ct_input.specs.declared.script.Script.{Script};
 ghost use Rattle.ct_vectors.specs.declared.limits.TheConstants.{ROW_LIMIT};
 ghost use Rattle.ct_input.specs.Script.{IsScript};
 ghost use Rattle.ct_input.specs.Sheet.{Gives};
 ghost use Rattle.ct_outside.specs.Shelf.{KeepsShelf};
 ghost use Rattle.ct_run.specs.Forms.{instance_file, session_file};
+ghost use Rattle.ct_run.specs.Plan.{Plan, instance_plan, script_plan};
 ghost use Rattle.ct_run.specs.Running.{HasBytes};
-ghost use Rattle.ct_run.specs.Stopping.{StoppedAt};
+ghost use Rattle.ct_run.specs.Stopping.{StoppedAt, Ran, LeadsTo};
 
+use crate::ending::{bad_instance_ending, bad_sessions_ending};
+use crate::sharing::shared;
 use crate::stop::Stop;
+use ct_input::limits::{INSTANCE_FILE_LIMIT, SESSION_FILE_LIMIT};
 use ct_input::{InputStop, Script, read_instance, read_sessions};
 use ct_instance::Instance;
 use ct_json::{is_json, read_instance_json, read_sessions_json};
 use ct_outside::{FetchFault, Shelf};
 use std::alloc::Global;
+use std::sync::Arc;
 
 /// The bytes of the file of this name, of a longer one the first `limit + 1`.
 pub fn file_at<S: Shelf>(
@@ -34,9 +42,9 @@ pub fn file_at<S: Shelf>(
     }
 }
 
-/// The instance of a file, in JSON or as text.
+// The instance of a file, in JSON or as text.
 #[tactic(auto, unfolding(crate::specs::Forms::instance_file))]
-pub fn instance_in(alloc: Global, bytes: &[u8]) -> Result<Instance, InputStop>
+fn instance_in(alloc: Global, bytes: &[u8]) -> Result<Instance, InputStop>
     ensures { Gives (λ instance. instance) result (instance_file bytes.now) }
 {
     if is_json(bytes) {
@@ -46,9 +54,9 @@ pub fn instance_in(alloc: Global, bytes: &[u8]) -> Result<Instance, InputStop>
     }
 }
 
-/// The script of a session file, in JSON or as text, for an instance with so many rows.
+// The script of a session file, in JSON or as text, for an instance with so many rows.
 #[tactic(auto, unfolding(crate::specs::Forms::session_file))]
-pub fn script_in(alloc: Global, rows: usize, bytes: &[u8]) -> Result<Script, InputStop>
+fn script_in(alloc: Global, rows: usize, bytes: &[u8]) -> Result<Script, InputStop>
     requires { rows ≤ ROW_LIMIT }
     ensures gives { Gives (λ script. script) result (session_file rows bytes.now) }
     ensures script { IfOk result (IsScript rows) }
@@ -57,5 +65,44 @@ pub fn script_in(alloc: Global, rows: usize, bytes: &[u8]) -> Result<Script, Inp
         read_sessions_json(alloc, rows as u32, bytes)
     } else {
         read_sessions(alloc, rows, bytes)
+    }
+}
+
+/// The instance of the file of this name, where many can hold it.
+pub fn instance_at<S: Shelf>(
+    alloc: Global,
+    name: &str,
+    shelf: &mut S,
+) -> Result<Arc<Instance>, Stop>
+    ensures read { IfOk result (λ inst. (go : Problem → Plan) → LeadsTo (instance_plan name.now go) (go (arc_value inst)) (S.told shelf.old) (S.faults shelf.old) (S.faults shelf.new)) }
+    ensures stopped { IfErr result (λ stop. (go : Problem → Plan) → Ran (instance_plan name.now go) (S.told shelf.old) (S.faults shelf.old) (S.faults shelf.new) (Err stop)) }
+    ensures shelf { KeepsShelf (S.told shelf.old) (S.told shelf.new) (S.faults shelf.old) (S.faults shelf.new) (λ other. other ≡ name.now) }
+{
+    let bytes = file_at(alloc, name, INSTANCE_FILE_LIMIT as u64, shelf)?;
+    match instance_in(alloc, &bytes) {
+        Ok(inst) => Ok(shared(alloc, inst)?),
+        Err(InputStop::Fault(fault)) => Err(Stop::Refused(bad_instance_ending(alloc, &fault)?)),
+        Err(InputStop::Memory) => Err(Stop::Memory),
+    }
+}
+
+/// The script of the session file of this name, for an instance with so many rows.
+pub fn script_at<S: Shelf>(
+    alloc: Global,
+    rows: usize,
+    name: &str,
+    shelf: &mut S,
+) -> Result<Script, Stop>
+    requires { rows ≤ ROW_LIMIT }
+    ensures script { IfOk result (IsScript rows) }
+    ensures read { IfOk result (λ script. (go : Script → Plan) → LeadsTo (script_plan name.now rows go) (go script) (S.told shelf.old) (S.faults shelf.old) (S.faults shelf.new)) }
+    ensures stopped { IfErr result (λ stop. (go : Script → Plan) → Ran (script_plan name.now rows go) (S.told shelf.old) (S.faults shelf.old) (S.faults shelf.new) (Err stop)) }
+    ensures shelf { KeepsShelf (S.told shelf.old) (S.told shelf.new) (S.faults shelf.old) (S.faults shelf.new) (λ other. other ≡ name.now) }
+{
+    let bytes = file_at(alloc, name, SESSION_FILE_LIMIT as u64, shelf)?;
+    match script_in(alloc, rows, &bytes) {
+        Ok(script) => Ok(script),
+        Err(InputStop::Fault(fault)) => Err(Stop::Refused(bad_sessions_ending(alloc, &fault)?)),
+        Err(InputStop::Memory) => Err(Stop::Memory),
     }
 }

@@ -1,28 +1,18 @@
-//! What keeps a run from its text.
+//! What keeps a run from the text of its command.
 ghost use Rattle.std.specs.Prelude.{◌≡◌};
-ghost use Rattle.ct_run.specs.Stopping.{stop_status};
 
-use crate::status::Status;
+use crate::ending::Ending;
 use std::alloc::AllocError;
 
-/// Why a run comes to no outcome.
-#[derive(Clone, Copy, Debug, PartialEq, Eq)]
+/// Why a run doesn't come to the text of its command.
+#[derive(Debug, Drop)]
 pub enum Stop {
+    /// A file has a fault, and the ending says so.
+    Refused(Ending),
     /// A file could not be read.
     ReadFault,
     /// Memory ran out.
     Memory,
-}
-
-impl Stop {
-    pub fn status(self) -> Status
-        ensures { result ≡ stop_status self }
-    {
-        match self {
-            Stop::ReadFault => Status::ReadFault,
-            Stop::Memory => Status::Memory,
-        }
-    }
 }
 
 impl From<AllocError> for Stop {

@@ -4,13 +4,13 @@ use ct_outside::{FetchFault, MemShelf, MemSink, Shelf};
 use std::alloc::{AllocError, Global};
 use std::test::Fail;
 
-const K: &str = "instance 1\nrows 1\ncolumns 2\nmatrix\n3 5\ncost 2 3\nend\n";
+pub const K: &str = "instance 1\nrows 1\ncolumns 2\nmatrix\n3 5\ncost 2 3\nend\n";
 
-const ZERO: &str = "instance 1\nrows 1\ncolumns 2\nmatrix\n3 0\ncost 2 3\nend\n";
+pub const ZERO: &str = "instance 1\nrows 1\ncolumns 2\nmatrix\n3 0\ncost 2 3\nend\n";
 
 const CUT: &str = "instance 1\nrows 1\ncolumns 2\nmatrix\n3";
 
-const COINS: &str = "# coins\ninstance 1 rows 1 columns 4 matrix 1 5 10 25 cost 1 1 1 1 end";
+pub const COINS: &str = "# coins\ninstance 1 rows 1 columns 4 matrix 1 5 10 25 cost 1 1 1 1 end";
 
 const TIE: &str = "instance 1 rows 1 columns 2 matrix 1 1 cost 1 1 end";
 
@@ -24,13 +24,13 @@ const TIED: &str = "instance 1 rows 1 columns 2 matrix 1 1 cost 1 1 cost 0 1 end
 
 const COINS_BELOW: &str = "instance 1 rows 1 columns 2 matrix 3 5 cost 0 0 cost 2 3 end";
 
-const ONE: &str = "sessions 1 phase 0 session solve 15 end";
+pub const ONE: &str = "sessions 1 phase 0 session solve 15 end";
 
-const REPORT: &str = "report 1\nphase 1\nsession 1\noptimum 9 at 0 3\nend\n";
+pub const REPORT: &str = "report 1\nphase 1\nsession 1\noptimum 9 at 0 3\nend\n";
 
-const USAGE: &str = "usage: ct COMMAND ARGUMENTS\n";
+pub const USAGE: &str = "usage: ct COMMAND ARGUMENTS\n";
 
-fn words_of(alloc: Global, words: &[&str]) -> Result<Vec<String>, AllocError> {
+pub fn words_of(alloc: Global, words: &[&str]) -> Result<Vec<String>, AllocError> {
     let mut found = Vec::new(alloc);
     for word in words {
         found.push(String::from_str(alloc, word)?)?;

@@ -8,7 +8,7 @@ use Rattle.ct_run.specs.Running.{RunsAfter}
 use Rattle.ct_run.specs.Stopping.{EndedBy, StoppedBy}
 use Rattle.ct_run.proofs.LedgerFiles.{checked_front}
 use Rattle.ct_run.proofs.Runs.{HasBytes-map}
-use Rattle.ct_run.proofs.run.ledger_ending.Goals as goal
+use Rattle.ct_run.proofs.plain.ledger_ending.Goals as goal
 
 pub returns-clause-ran : goal.returns-clause-ran
 returns-clause-ran g c =

@@ -1,0 +1,119 @@
+//! The commands that take no threads.
+ghost use Rattle.std.specs.Prelude.{◌≡◌, ◌≤◌, ℕ, List, IfSome, option_map};
+ghost use Rattle.std.specs.Arc.{arc_value};
+ghost use Rattle.ct_run.specs.Words.{IsLimit, IsWorkWithin, IsCommandWithin};
+ghost use Rattle.ct_run.specs.Commands.{work_seen, seen};
+ghost use Rattle.ct_run.specs.Plan.{case_of, sessions_plan, check_plan, work_plan, instance_plan, plan_of, plain_of};
+ghost use Rattle.ct_run.specs.Stopping.{Ran};
+
+use crate::certifying::certify_ending;
+use crate::checking::check_ending;
+use crate::ending::{Ending, report_ending, usage_ending};
+use crate::making::made_ending;
+use crate::reading::{file_at, instance_at, script_at};
+use crate::stop::Stop;
+use crate::words::{Command, Work};
+use ct_answer::Options;
+use ct_input::limits::LEDGER_FILE_LIMIT;
+use ct_instance::Instance;
+use ct_outside::Shelf;
+use std::alloc::Global;
+use std::sync::Arc;
+
+// The ending of `answer` on the session file of an instance.
+fn sessions_ending<S: Shelf>(
+    alloc: Global,
+    inst: &Arc<Instance>,
+    sessions: &str,
+    options: Options,
+    shelf: &mut S,
+) -> Result<Ending, Stop>
+    requires { IsLimit options.limit }
+    ensures ran { Ran (sessions_plan sessions.now (case_of options (arc_value inst.now))) (S.told shelf.old) (S.faults shelf.old) (S.faults shelf.new) result }
+    ensures kept { S.told shelf.new ≡ S.told shelf.old }
+    ensures later { (name : List ℕ) → S.faults shelf.old name ≤ S.faults shelf.new name }
+{
+    let script = script_at(alloc, inst.rows(), sessions, shelf)?;
+    Ok(report_ending(alloc, inst, &script, options)?)
+}
+
+// The ending of `check` on the ledger file.
+fn ledger_ending<S: Shelf>(
+    alloc: Global,
+    inst: &Arc<Instance>,
+    ledger: &str,
+    shelf: &mut S,
+) -> Result<Ending, Stop>
+    ensures ran { Ran (check_plan ledger.now (arc_value inst.now)) (S.told shelf.old) (S.faults shelf.old) (S.faults shelf.new) result }
+    ensures kept { S.told shelf.new ≡ S.told shelf.old }
+    ensures later { (name : List ℕ) → S.faults shelf.old name ≤ S.faults shelf.new name }
+{
+    let bytes = file_at(alloc, ledger, LEDGER_FILE_LIMIT as u64, shelf)?;
+    let ending = check_ending(alloc, inst, &bytes)?;
+    Ok(ending)
+}
+
+// The ending of the work on an instance.
+fn work_ending<S: Shelf>(
+    alloc: Global,
+    work: Work<'_>,
+    inst: Arc<Instance>,
+    shelf: &mut S,
+) -> Result<Ending, Stop>
+    requires { IsWorkWithin (work_seen work) }
+    ensures ran { Ran (work_plan (work_seen work.entry) (arc_value inst)) (S.told shelf.old) (S.faults shelf.old) (S.faults shelf.new) result }
+    ensures kept { S.told shelf.new ≡ S.told shelf.old }
+    ensures later { (name : List ℕ) → S.faults shelf.old name ≤ S.faults shelf.new name }
+{
+    match work {
+        Work::Answer {
+            sessions,
+            walks,
+            levels,
+            moves,
+        } => {
+            let options = Options {
+                limit: moves,
+                walks,
+                levels,
+            };
+            sessions_ending(alloc, &inst, sessions, options, shelf)
+        }
+        Work::Certify { grade, moves } => Ok(certify_ending(alloc, inst, grade, moves)?),
+        Work::Check { ledger } => ledger_ending(alloc, &inst, ledger, shelf),
+    }
+}
+
+// The ending of the work on the instance of a file.
+fn instance_ending<S: Shelf>(
+    alloc: Global,
+    instance: &str,
+    work: Work<'_>,
+    shelf: &mut S,
+) -> Result<Ending, Stop>
+    requires { IsWorkWithin (work_seen work) }
+    ensures ran { Ran (instance_plan instance.now (work_plan (work_seen work.entry))) (S.told shelf.old) (S.faults shelf.old) (S.faults shelf.new) result }
+    ensures kept { S.told shelf.new ≡ S.told shelf.old }
+    ensures later { (name : List ℕ) → S.faults shelf.old name ≤ S.faults shelf.new name }
+{
+    let inst = instance_at(alloc, instance, shelf)?;
+    work_ending(alloc, work, inst, shelf)
+}
+
+/// The ending of a command but `serve`, or of words that are none.
+pub fn plain_ending<S: Shelf>(
+    alloc: Global,
+    command: Option<Command<'_>>,
+    shelf: &mut S,
+) -> Result<Ending, Stop>
+    requires { IfSome command (λ known. IsCommandWithin (seen known)) }
+    ensures ran { Ran (plan_of (plain_of (option_map seen command.entry))) (S.told shelf.old) (S.faults shelf.old) (S.faults shelf.new) result }
+    ensures kept { S.told shelf.new ≡ S.told shelf.old }
+    ensures later { (name : List ℕ) → S.faults shelf.old name ≤ S.faults shelf.new name }
+{
+    match command {
+        Some(Command::On { instance, work }) => instance_ending(alloc, instance, work, shelf),
+        Some(Command::Make { number }) => Ok(made_ending(alloc, number)?),
+        Some(Command::Serve { .. }) | None => Ok(usage_ending(alloc)?),
+    }
+}

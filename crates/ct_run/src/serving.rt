@@ -1,8 +1,8 @@
 //! The command that takes threads.
 ghost use Rattle.std.specs.Prelude.{◌≡◌, ◌≤◌, ℕ, List};
 ghost use Rattle.ct_vectors.specs.declared.limits.TheConstants.{WORKER_LIMIT};
-ghost use Rattle.ct_run.specs.Words.{IsLimit};
-ghost use Rattle.ct_run.specs.Plan.{case_of, serve_plan, instance_plan};
+ghost use Rattle.ct_run.specs.Words.{IsLimit, serve};
+ghost use Rattle.ct_run.specs.Plan.{command_plan};
 ghost use Rattle.ct_run.specs.Stopping.{Ran};
 
 use crate::ending::{Ending, served_ending};
@@ -28,7 +28,7 @@ pub fn serve_ending<R: Threads + Wait + Sync, S: Shelf, G: Gate + Sync>(
 ) -> Result<Ending, Stop>
     requires workers { workers ≤ WORKER_LIMIT }
     requires limit { IsLimit options.limit }
-    ensures ran { Ran (instance_plan instance.now (λ i. serve_plan sessions.now (case_of options i))) (S.told shelf.old) (S.faults shelf.old) (S.faults shelf.new) result }
+    ensures ran { Ran (command_plan (serve instance.now sessions.now workers options.walks options.levels options.limit)) (S.told shelf.old) (S.faults shelf.old) (S.faults shelf.new) result }
     ensures kept { S.told shelf.new ≡ S.told shelf.old }
     ensures later { (name : List ℕ) → S.faults shelf.old name ≤ S.faults shelf.new name }
 {

@@ -7,9 +7,6 @@ use Rattle.ct_text.specs.Numbers.{natural_of}
 use Rattle.ct_words.specs.Table.{WordOption}
 use Rattle.ct_words.specs.declared.table.Bounds.{Bounds}
 use Rattle.ct_words.specs.declared.role.Given.{Given}
-use Rattle.ct_words.specs.declared.role.Asked.{Asked}
-use Rattle.ct_words.specs.declared.role.Role.{Role}
-use Rattle.ct_words.specs.declared.role.Role.TheVariants.{Ends, Positional, Says, Opens}
 
 infixl 10 ◌>>=◌
 abbrev pub ◌>>=◌ : {X Y : Type 0} → Option X → (X → Option Y) → Option Y
@@ -36,15 +33,6 @@ pub data WordRole : Type 0 where
 
 abbrev pub given_seen : Given → WordGiven
 given_seen given = record { name = given.name.now; value = given.value }
-
-abbrev pub asked_seen : Asked → WordAsked
-asked_seen asked = record { name = asked.name.now; bounds = asked.bounds }
-
-abbrev pub role_seen : Role → WordRole
-role_seen Ends = ends
-role_seen Positional = positional
-role_seen (Says given) = says (given_seen given)
-role_seen (Opens asked) = opens (asked_seen asked)
 
 abbrev pub at_least : ℕ → Result ℕ NumberFault → Option ℕ
 at_least low (Ok n) = if nat_lt n low then None else Some n

@@ -4,6 +4,7 @@
 //! it. `specs/` has the rules: what a word is, what the words are together, and when they are a command.
 #![tactic(auto)]
 
+mod command;
 mod parts;
 mod role;
 mod said;

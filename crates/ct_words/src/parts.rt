@@ -1,13 +1,23 @@
-//! The positional words and the options among the words after a command's name.
-ghost use Rattle.std.specs.Prelude.{◌≡◌, ◌++◌, map, find, option_map, string_bytes, IfOk, None};
+//! The positional words and the options among the words after a command's name, as clap finds them.
+ghost use Rattle.std.specs.Prelude.{◌≡◌, ◌&&◌, not, find, map, option_map, string_bytes, true, IfOk, None};
 ghost use Rattle.std.specs.Str.{bytes_eq};
 ghost use Rattle.std.specs.List.{list_any};
+ghost use Rattle.clap.specs.Words.{app_of, is_simple};
+ghost use Rattle.clap.specs.Faults.{is_simple_and_free};
+ghost use Rattle.clap.specs.Walk.{first_of};
 ghost use Rattle.ct_words.specs.Table.{option_seen};
 ghost use Rattle.ct_words.specs.Role.{given_seen};
-ghost use Rattle.ct_words.specs.Parts.{parts_of, parts_seen, has_name, value_of, are_distinct};
+ghost use Rattle.ct_words.specs.Parts.{parts_of, parts_seen, has_name, value_of};
+ghost use Rattle.ct_words.specs.Items.{given_by, has_single, is_single};
+ghost use Rattle.ct_words.specs.Command.{places_id};
+ghost use Rattle.ct_words.specs.Reading.{IsParsedAs, distinct, given_in, is_command_line, is_said, parts_read, places_in, rows_found};
 
-use crate::role::{Asked, Given, Role, role_in};
-use crate::table::OptionRow;
+use crate::command::{PLACES, command_of};
+use crate::role::{Given, given_by};
+use crate::table::{CommandRow, OptionRow};
+use clap::error::ErrorKind;
+use clap::parser::ValueSource;
+use clap::{ArgMatches, Command};
 use std::alloc::{AllocError, Global};
 
 /// The positional words, and the options that were given, each in their order.
@@ -17,46 +27,151 @@ pub struct Parts<'a> {
     pub given: Vec<Given>,
 }
 
-// All these words are positional too.
-fn with_places<'a>(mut parts: Parts<'a>, words: &'a [String]) -> Result<Parts<'a>, AllocError>
-    ensures places { IfOk result (λ p. map (λ w. w.now) p.places.items ≡ map (λ w. w.now) parts.entry.places.items ++ map string_bytes words.entry.now) }
-    ensures given { IfOk result (λ p. p.given.items ≡ parts.entry.given.items) }
+fn is_single(word: &[u8]) -> bool
+    ensures { result ≡ is_single word.now }
 {
-    for word in words {
-        parts.places.push(word.as_str())?;
+    match word {
+        [b'-', second, ..] => *second != b'-',
+        _ => false,
     }
-    Ok(parts)
 }
 
-/// The parts of the words, unless one of them is no word of a command with these options.
-pub fn parts_in<'a>(
-    alloc: Global,
-    rows: &[OptionRow],
-    words: &'a [String],
-) -> Result<Option<Parts<'a>>, AllocError>
-    ensures { IfOk result (λ parts. option_map parts_seen parts ≡ parts_of (map option_seen rows.now) None (map string_bytes words.entry.now)) }
+// Whether a word before the first `--` has one dash in front of another byte: clap would read it as short flags.
+fn has_single(words: &[String]) -> bool
+    ensures { result ≡ has_single (map string_bytes words.now) }
 {
-    let mut parts = Parts {
-        places: Vec::new(alloc),
-        given: Vec::new(alloc),
-    };
-    let mut waiting: Option<Asked> = None;
-    for (i, word) in words.iter().enumerate() {
-        let Some(role) = role_in(rows, waiting, word.as_bytes()) else {
-            return Ok(None);
-        };
-        waiting = None;
-        match role {
-            Role::Ends => return Ok(Some(with_places(parts, &words[i + 1..])?)),
-            Role::Positional => parts.places.push(word.as_str())?,
-            Role::Says(given) => parts.given.push(given)?,
-            Role::Opens(asked) => waiting = Some(asked),
+    for word in words {
+        if word.as_str() == "--" {
+            return false;
+        }
+        if is_single(word.as_bytes()) {
+            return true;
         }
     }
-    if waiting.is_some() {
+    false
+}
+
+// The matches of the words, where the command takes them.
+fn matches_in<'a>(
+    command: Command<'a>,
+    words: &'a [String],
+) -> Result<Option<ArgMatches<'a>>, AllocError>
+    ensures { is_simple (app_of command.entry) ≡ true → is_simple_and_free (app_of command.entry) ≡ true → IfOk result (IsParsedAs (app_of command.entry) (map string_bytes words.entry.now)) }
+{
+    match command.try_get_matches_from(words) {
+        Ok(matches) => Ok(Some(matches)),
+        Err(error) => {
+            if error.kind() == ErrorKind::OutOfMemory {
+                Err(AllocError)
+            } else {
+                Ok(None)
+            }
+        }
+    }
+}
+
+fn is_command_line(source: Option<ValueSource>) -> bool
+    ensures { result ≡ is_command_line source }
+{
+    match source {
+        None | Some(ValueSource::DefaultValue) => false,
+        Some(ValueSource::CommandLine) => true,
+    }
+}
+
+// Whether the words gave it, and not a default.
+fn is_said(matches: &ArgMatches<'_>, id: &str) -> bool
+    ensures { result ≡ is_said id.now (rows_found matches.now) }
+{
+    is_command_line(matches.value_source(id))
+}
+
+// Whether it is an option that the words gave.
+fn is_given(matches: &ArgMatches<'_>, id: &str) -> bool
+    ensures { result ≡ (not (bytes_eq id.now places_id) && is_said id.now (rows_found matches.now)) }
+{
+    id != PLACES && is_said(matches, id)
+}
+
+fn option_given(rows: &[OptionRow], matches: &ArgMatches<'_>, id: &str) -> Option<Given>
+    ensures { option_map given_seen result ≡ given_by (map option_seen rows.now) id.now (first_of id.now (rows_found matches.now)) }
+{
+    given_by(rows, id, matches.get_str(id))
+}
+
+// The options in the order in which they were given.
+fn given_in(
+    alloc: Global,
+    rows: &[OptionRow],
+    matches: &ArgMatches<'_>,
+) -> Result<Option<Vec<Given>>, AllocError>
+    ensures { IfOk result (λ given. option_map (λ list. map given_seen list.items) given ≡ given_in (map option_seen rows.now) (rows_found matches.now) (map (λ row. row.id) (rows_found matches.now))) }
+{
+    let mut given = Vec::new(alloc);
+    for id in matches.ids() {
+        if is_given(matches, id) {
+            match option_given(rows, matches, id) {
+                Some(one) => given.push(one)?,
+                None => return Ok(None),
+            }
+        }
+    }
+    Ok(Some(given))
+}
+
+fn copied<'a>(alloc: Global, words: &[&'a str]) -> Result<Vec<&'a str>, AllocError>
+    ensures { IfOk result (λ copy. map (λ word. word.now) copy.items ≡ map (λ word. word.now) words.now) }
+{
+    let mut copy = Vec::new(alloc);
+    for word in words {
+        copy.push(*word)?;
+    }
+    Ok(copy)
+}
+
+fn places_in<'a>(alloc: Global, matches: &ArgMatches<'a>) -> Result<Vec<&'a str>, AllocError>
+    ensures { IfOk result (λ places. map (λ word. word.now) places.items ≡ places_in (rows_found matches.now)) }
+{
+    if !is_said(matches, PLACES) {
+        return Ok(Vec::new(alloc));
+    }
+    match matches.get_raw(PLACES) {
+        Some(words) => copied(alloc, words),
+        None => Ok(Vec::new(alloc)),
+    }
+}
+
+fn parts_read<'a>(
+    alloc: Global,
+    rows: &[OptionRow],
+    matches: &ArgMatches<'a>,
+) -> Result<Option<Parts<'a>>, AllocError>
+    ensures { IfOk result (λ parts. option_map parts_seen parts ≡ parts_read (map option_seen rows.now) (rows_found matches.now)) }
+{
+    let places = places_in(alloc, matches)?;
+    match given_in(alloc, rows, matches)? {
+        Some(given) => Ok(Some(Parts { places, given })),
+        None => Ok(None),
+    }
+}
+
+/// The parts of the words after a command's name, unless one of them is no word of the command or an option is given
+/// twice.
+pub fn parts_in<'a>(
+    alloc: Global,
+    row: CommandRow,
+    words: &'a [String],
+) -> Result<Option<Parts<'a>>, AllocError>
+    ensures { IfOk result (λ parts. option_map parts_seen parts ≡ distinct (parts_of (map option_seen row.options.now) None (map string_bytes words.entry.now))) }
+{
+    if has_single(words) {
         return Ok(None);
     }
-    Ok(Some(parts))
+    let command = command_of(alloc, row)?;
+    match matches_in(command, words)? {
+        Some(matches) => parts_read(alloc, row.options, &matches),
+        None => Ok(None),
+    }
 }
 
 fn has_one_named(given: &[Given], name: &str) -> bool
@@ -92,16 +207,4 @@ pub fn value_named(given: &[Given], name: &str) -> Option<u64>
         Some(one) => one.value,
         None => None,
     }
-}
-
-/// Whether no option was given twice.
-pub fn no_option_twice(given: &[Given]) -> bool
-    ensures { result ≡ are_distinct (map given_seen given.now) }
-{
-    for (i, one) in given.iter().enumerate() {
-        if is_named(&given[i + 1..], one.name) {
-            return false;
-        }
-    }
-    true
 }

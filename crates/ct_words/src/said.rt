@@ -4,9 +4,10 @@ ghost use Rattle.std.specs.List.{list_any};
 ghost use Rattle.std.specs.Str.{bytes_eq};
 ghost use Rattle.ct_words.specs.Table.{command_seen, commands};
 ghost use Rattle.ct_words.specs.Parts.{parts_seen};
-ghost use Rattle.ct_words.specs.Said.{place_of, place_seen, places_of, named_of, said_of, seen, told_of};
+ghost use Rattle.ct_words.specs.Reading.{told_as};
+ghost use Rattle.ct_words.specs.Said.{place_of, place_seen, places_of, named_of, said_of, seen};
 
-use crate::parts::{Parts, is_named, no_option_twice, parts_in, value_named};
+use crate::parts::{Parts, is_named, parts_in, value_named};
 use crate::role::{Given, number_of};
 use crate::table::{Bounds, COMMANDS, CommandName, CommandRow};
 use std::alloc::{AllocError, Global};
@@ -81,17 +82,14 @@ fn places_in<'a>(
     Ok(Some(places))
 }
 
-// What the command is told by these parts.
+// What the command is told by these parts, of which no option stands twice.
 fn told_by<'a>(
     alloc: Global,
     row: CommandRow,
     parts: Parts<'a>,
 ) -> Result<Option<Said<'a>>, AllocError>
-    ensures { IfOk result (λ said. option_map seen said ≡ told_of (command_seen row) (parts_seen parts.entry)) }
+    ensures { IfOk result (λ said. option_map seen said ≡ told_as (command_seen row) (parts_seen parts.entry)) }
 {
-    if !no_option_twice(&parts.given) {
-        return Ok(None);
-    }
     match places_in(alloc, row.places, &parts.places)? {
         Some(places) => Ok(Some(Said {
             command: row.command,
@@ -138,7 +136,7 @@ fn named_in<'a>(
     let Some(row) = row_of(table, name) else {
         return Ok(None);
     };
-    match parts_in(alloc, row.options, others)? {
+    match parts_in(alloc, row, others)? {
         Some(parts) => told_by(alloc, row, parts),
         None => Ok(None),
     }
@@ -159,7 +157,8 @@ pub fn said_by<'a>(
 }
 
 /// What the words after the program's name say, by [`COMMANDS`]; `None` where they are no command. An `Err` is want of
-/// memory. Time and memory are linear in the words, but for options: each is compared with those after it.
+/// memory. The words after the first are read by one `clap` command, made from the row of the first. Memory is linear
+/// in the words, and each option is compared with those of the command.
 pub fn said_in<'a>(alloc: Global, words: &'a [String]) -> Result<Option<Said<'a>>, AllocError>
     ensures { IfOk result (λ said. option_map seen said ≡ said_of commands (map string_bytes words.entry.now)) }
 {

@@ -7,6 +7,7 @@ use crate::table::{LockSeat, LockTable};
 use std::alloc::{AllocError, Global};
 use std::marker::Model;
 use std::sync::Wait;
+use std::thread;
 
 /// A lock round one value. One that is dropped drops the value.
 #[derive(Drop)]
@@ -85,8 +86,8 @@ impl<V: Counted + Drop> CountLock<V> {
         dealt
     }
 
-    /// Takes the lock as a test-and-set lock does, by one `fetch_or` at a time until it has it, and so may wait for
-    /// ever. The pass's number is one of the value's counts. It takes no memory.
+    /// Takes the lock as a test-and-set lock does, by one `fetch_or` at a time until it has it, and so may wait for ever;
+    /// after one that misses it lets other threads run. The pass's number is one of the value's counts. It takes no memory.
     pub fn lock<R: Wait>(&self, rt: &R, pass: &mut LockPass<V>) -> V
         requires own { IsOfLock self.now pass.old }
         requires idle { pass.old.held ≡ None }
@@ -99,6 +100,8 @@ impl<V: Counted + Drop> CountLock<V> {
             if let Some(value) = self.try_lock(pass) {
                 return value;
             }
+            // Who holds the lock may wait for this processor.
+            thread::yield_now();
         }
         unreachable!()
     }

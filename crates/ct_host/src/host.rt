@@ -47,7 +47,7 @@ impl Host {
     ghost use Rattle.ct_host.specs.Closing.{AreAllPasses, IsClosed, IsJournalOf};
 
     /// A host at version 0, and its passes in the order of their numbers, for an instance, a limit of 1 to 4,096 moves and
-    /// 1 to 33 passes. It takes the memory of a book that is opened, a cell, a lock and the passes.
+    /// 1 to 33 passes. It takes the memory of a book that is opened, in a box, of a cell, of a lock and of the passes.
     pub fn open(
         alloc: Global,
         inst: Arc<Instance>,
@@ -65,7 +65,8 @@ impl Host {
         let book = Book::open(alloc, inst, limit, passes)?;
         let version = Arc::try_clone(book.version())?;
         let (cell, first) = TurnCell::open(alloc, Newest::new(version, limit))?;
-        let (lock, locks) = CountLock::open(alloc, LockedBook::new(book), passes)?;
+        let locked = LockedBook::new(alloc, book)?;
+        let (lock, locks) = CountLock::open(alloc, locked, passes)?;
         let dealt = deal(&cell, first, &lock, locks, made);
         Ok((Host { cell, lock, limit }, dealt))
     }

@@ -9,10 +9,11 @@ use ct_completion::Entry;
 use std::alloc::{AllocError, Global};
 use std::marker::Model;
 
-// A book, whose counts are the numbers of entries of its passes.
+// A book, whose counts are the numbers of entries of its passes. It lies in a box, since each get of the lock moves what the
+// slot holds, from one processor to another.
 #[derive(Drop)]
 pub struct LockedBook {
-    book: Book,
+    book: Box<Book>,
 }
 
 impl Model for LockedBook {
@@ -20,7 +21,7 @@ impl Model for LockedBook {
 
     ghost Value = { BookSeen };
 
-    ghost view = { λ b. b.book };
+    ghost view = { λ b. b.book.value };
 }
 
 impl Counted for LockedBook {
@@ -47,17 +48,19 @@ impl LockedBook {
     ghost use Rattle.ct_host.specs.Values.{bench_place};
     ghost use Rattle.ct_host.specs.Steps.{IsHostStep, IsHostCommit};
 
-    pub fn new(book: Book) -> LockedBook
-        ensures { result ≡ book }
+    pub fn new(alloc: Global, book: Book) -> Result<LockedBook, AllocError>
+        ensures { IfOk result (λ l. l ≡ book) }
     {
-        LockedBook { book }
+        Ok(LockedBook {
+            book: Box::new(alloc, book)?,
+        })
     }
 
     pub fn into_book(self) -> Book
         ensures { result ≡ self }
     {
         let LockedBook { book } = self;
-        book
+        Box::into_inner(book)
     }
 
     // One step of the book.

@@ -1,4 +1,5 @@
-use Rattle.std.proofs.Common.{◌≡◌, ◌<◌, sym, ap, subst, arith}
+use Rattle.std.proofs.Common.{◌≡◌, ◌<◌, sym, ap, subst, ◌∙◌, arith}
+use Rattle.ct_completion.specs.Journal.{entries_of}
 use Rattle.ct_book.specs.Books.{BookSeen, edition_of, place_of}
 use Rattle.ct_book.specs.Benches.{BenchPlace}
 use Rattle.ct_version.specs.Desks.{IsOfPlace}
@@ -7,18 +8,21 @@ use Rattle.ct_host.proofs.locked.LockedBook.step.Goals as goal
 
 pub returns : goal.returns
 returns c =
-    let b = c.self.inside.book in let after = c.step-answer.new.self in
-    let own : c.args.by < b.passes = subst (λ (x : BookSeen). c.args.by < x.passes) (sym c.self.view_is) c.requires.pass in
-    let placed : IsOfPlace (place_of after) (edition_of after) = subst (IsOfPlace (place_of after)) c.version-version.ensures.version c.version-version.ensures.place in
+    let b = c.deref_mut.result.now in let after = c.step-answer.new.self in let same : b ≡ c.args.self.now = c.deref_mut.ensures.value ∙ c.self.view_is in
+    let own : c.args.by < b.passes = subst (λ (x : BookSeen). c.args.by < x.passes) (sym same) c.requires.pass in
+    let placed : IsOfPlace (place_of after) (edition_of after) =
+    subst (λ (x : BookSeen). IsOfPlace (place_of x) (edition_of x)) c.deref.ensures
+    (subst (IsOfPlace (place_of c.deref.result.now)) c.version-version.ensures.version c.version-version.ensures.place) in
+    let entries : c.entries-entries.result ≡ entries_of c.args.by after.journal = c.entries-entries.ensures.entries ∙ ap (λ (x : BookSeen). entries_of c.args.by x.journal) c.deref-2.ensures in
     let s : Stepped c.args.self.now after c.args.by c.args.target c.step-answer.result =
-    subst (λ (x : BookSeen). Stepped x after c.args.by c.args.target c.step-answer.result) c.self.view_is
+    subst (λ (x : BookSeen). Stepped x after c.args.by c.args.target c.step-answer.result) same
     (stepped b after c.args.by c.args.target c.step-answer.result own c.step-answer.ensures.answer c.step-answer.ensures.refused c.step-answer.ensures.counts placed) in
     let passes : after.passes ≡ c.args.self.now.passes = ap (λ (p : BenchPlace). p.passes) s.place in
     record {
       place = s.place;
       answer = s.answer;
       grows = s.grows;
-      fits = fits_here after c.args.by c.entries-entries.result _ (omega (arith, passes, c.requires.pass)) c.entries-entries.ensures.entries c.entries-entries.type_inv;
+      fits = fits_here after c.args.by c.entries-entries.result _ (omega (arith, passes, c.requires.pass)) entries c.entries-entries.type_inv;
       count = s.count;
       refused = s.refused;
     }

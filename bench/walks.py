@@ -1,5 +1,6 @@
 #!/usr/bin/env python3
-"""Look-ups, walks and whole completions beside the yardstick, on the same points in one run.
+"""Look-ups, walks and whole completions beside the yardstick, on the same points in one run; and a list that is extended by one
+move beside one that is made anew.
 
     bench/walks.py PATH_TO_CT_WALK_BENCH PATH_TO_CT_COMPLETION_BENCH [NAME ...]
 
@@ -45,8 +46,9 @@ def measure(folder, yard, points, completion, name):
             (ours, output([points, inst, file, "7"])),
         ):
             best["counts"] = text.split("\nlookup_ns")[0]
-            for key in ("lookup_ns", "walk_ns"):
-                best[key] = min(best.get(key, float("inf")), value(text, key))
+            for key in ("lookup_ns", "walk_ns", "extend_ns", "anew_ns"):
+                if key in text.split():
+                    best[key] = min(best.get(key, float("inf")), value(text, key))
         completed = value(output([yard, inst, ses, "--quiet"]), "complete_s") * 1e9
         theirs["complete_ns"] = min(theirs.get("complete_ns", float("inf")), completed)
         completed = value(output([completion, inst, grade, "1"]), "complete_ns")
@@ -59,7 +61,8 @@ def measure(folder, yard, points, completion, name):
         f"{name} ({value(ours['counts'], 'moves'):.0f} moves): a look-up {ours['lookup_ns'] / count:.0f} ns, "
         f"{ours['lookup_ns'] / theirs['lookup_ns']:.2f} of the yardstick's; a walk step {ours['walk_ns'] / steps:.0f} ns, "
         f"{ours['walk_ns'] / theirs['walk_ns']:.2f}; a completion {ours['complete_ns'] / 1e6:.1f} ms, "
-        f"{ours['complete_ns'] / theirs['complete_ns']:.2f}",
+        f"{ours['complete_ns'] / theirs['complete_ns']:.2f}; the list with one move more {ours['extend_ns'] / 1e3:.1f} us, "
+        f"{ours['extend_ns'] / ours['anew_ns']:.3f} of the list made anew",
         flush=True,
     )
 

@@ -84,6 +84,28 @@ impl Case {
         }
         Ok(())
     }
+
+    /// The list that has one move more, a copy of the first.
+    pub fn extended(&self, alloc: Global) -> Result<Moves> {
+        ensure!(self.moves.len() > 0, "no move");
+        ensure!(
+            (self.moves.len() as usize) < MOVE_LIMIT,
+            "too many moves to add one"
+        );
+        let mut more = Vec::new(alloc);
+        more.push(self.moves.get(1).copy(alloc)?)?;
+        Ok(self.moves.extended(alloc, more)?)
+    }
+
+    /// The list made anew, of a copy of each move.
+    pub fn made_anew(&self, alloc: Global) -> Result<Moves> {
+        let mut all = Vec::new(alloc);
+        for index in 0..self.moves.len() {
+            all.push(self.moves.get(index + 1).copy(alloc)?)?;
+        }
+        let none = Moves::new(alloc, Arc::try_clone(self.moves.instance())?);
+        Ok(none.extended(alloc, all)?)
+    }
 }
 
 // Numbers that are still to be read.

@@ -13,7 +13,7 @@ use ct_input::read_instance;
 use ct_instance::Instance;
 use std::alloc::Global;
 use std::sync::Arc;
-use std::time::{Duration, Instant};
+use std::time::{Clock, Duration, Instant};
 use std::{env, fs};
 
 // The instance of a text.
@@ -36,6 +36,40 @@ fn numbers_of(alloc: Global, text: &str) -> Result<Vec<u64>> {
 // How long, as a number of nanoseconds.
 fn nanoseconds(time: Duration) -> u64 {
     u64::try_from(time.as_nanos()).unwrap_or(u64::MAX)
+}
+
+// The fastest times, in nanoseconds.
+#[derive(Drop)]
+struct Times {
+    look_up: u64,
+    walk: u64,
+    extend: u64,
+    anew: u64,
+}
+
+// Each way so many times.
+fn timed(clock: &impl Clock, alloc: Global, case: &Case, repeats: u32) -> Result<Times> {
+    let mut best = Times {
+        look_up: u64::MAX,
+        walk: u64::MAX,
+        extend: u64::MAX,
+        anew: u64::MAX,
+    };
+    for _ in 0..repeats {
+        let began = Instant::now(clock)?;
+        let _ = case.look_up();
+        best.look_up = best.look_up.min(nanoseconds(began.elapsed(clock)?));
+        let began = Instant::now(clock)?;
+        case.walk_ends(alloc)?;
+        best.walk = best.walk.min(nanoseconds(began.elapsed(clock)?));
+        let began = Instant::now(clock)?;
+        let _longer = case.extended(alloc)?;
+        best.extend = best.extend.min(nanoseconds(began.elapsed(clock)?));
+        let began = Instant::now(clock)?;
+        let _anew = case.made_anew(alloc)?;
+        best.anew = best.anew.min(nanoseconds(began.elapsed(clock)?));
+    }
+    Ok(best)
 }
 
 fn main(rt: HostRuntime) -> Result<()> {
@@ -64,17 +98,11 @@ fn main(rt: HostRuntime) -> Result<()> {
     println!(rt; "walks {starts} steps {steps}")?;
     if let Some(word) = words.next() {
         let repeats = word.parse::<u32>().context("REPEATS is a number")?;
-        let mut best = (u64::MAX, u64::MAX);
-        for _ in 0..repeats {
-            let clock = Instant::now(&rt)?;
-            let _ = case.look_up();
-            let look_up = nanoseconds(clock.elapsed(&rt)?);
-            let clock = Instant::now(&rt)?;
-            case.walk_ends(alloc)?;
-            let walk = nanoseconds(clock.elapsed(&rt)?);
-            best = (best.0.min(look_up), best.1.min(walk));
-        }
-        println!(rt; "lookup_ns {} walk_ns {}", best.0, best.1)?;
+        let best = timed(&rt, alloc, &case, repeats)?;
+        println!(rt;
+            "lookup_ns {} walk_ns {} extend_ns {} anew_ns {}",
+            best.look_up, best.walk, best.extend, best.anew
+        )?;
     }
     Ok(())
 }

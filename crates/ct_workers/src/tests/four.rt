@@ -1,7 +1,5 @@
 //! Four workers on a transportation problem of five sources and five sinks, whose test list has 256 moves.
-ghost use Rattle.std.specs.Prelude.{◌≡◌};
-ghost use Rattle.ct_instance.specs.Made.{indices};
-ghost use Rattle.ct_host.specs.Hosts.{IsOfHost, fresh_pass};
+ghost use Rattle.ct_host.specs.Hosts.{IsOfHost};
 
 use crate::work;
 use ct_book::Book;

@@ -172,7 +172,7 @@ fn an_ask_beside_workers(rt: HostRuntime) -> Result<(), Fail> {
             "sessions 1 phase 21 session ask 10 phase 0 session ask 10 end",
         )?;
         assert!(rt; number == 0);
-        let mut found = 0;
+        let mut allowed = false;
         for line in [
             "notyet 2",
             "notyet 4",
@@ -184,11 +184,9 @@ fn an_ask_beside_workers(rt: HostRuntime) -> Result<(), Fail> {
             let report = format!(in alloc;
                 "report 1\nphase 1\nsession 1\n{line}\nphase 2\nsession 1\noptimum 6 at 0 2\nend\n"
             )?;
-            if out.held() == report.as_bytes() {
-                found += 1;
-            }
+            allowed = allowed || out.held() == report.as_bytes();
         }
-        assert!(rt; found == 1, "{workers} workers");
+        assert!(rt; allowed, "{workers} workers");
     }
     Ok(())
 }

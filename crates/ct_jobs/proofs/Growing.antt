@@ -1,6 +1,6 @@
 -- The jobs of a list of moves to which moves are added, and the next grade among all jobs.
-use Rattle.std.proofs.Common.{ℕ, ◌+◌, ◌≤◌, ◌<◌, ◌≡◌, ◌⊎◌, inl, inr, ⊎_elim, Bool, true, false, true≢false, not, nat_le, nat_lt, min, Option, Some, None, List, [], ◌∷◌, ◌++◌, map, filter, length, Contains, IsPermutation, refl, sym, ap, ap₂, subst, ◌∙◌, arith, length-append}
-use Rattle.std.proofs.lemmas.Bool.{cases_lt, lt-leb, leb-false, ltb-true, ltb-false}
+use Rattle.std.proofs.Common.{ℕ, ◌+◌, ◌≤◌, ◌<◌, ◌≡◌, ◌⊎◌, inl, inr, Bool, true, false, true≢false, not, nat_le, List, [], ◌∷◌, ◌++◌, map, filter, length, Contains, IsPermutation, refl, sym, ap, ap₂, subst, ◌∙◌, arith, length-append}
+use Rattle.std.proofs.lemmas.Bool.{lt-leb, leb-false}
 use Rattle.std.proofs.lemmas.List.{map-append}
 use Rattle.std.proofs.lemmas.List.Sorted.{IsPermutation-filter_both, IsPermutation-map, IsPermutation-append_left, IsPermutation-trans, IsPermutation-sym, Contains-permutation}
 use Rattle.ct_vectors.specs.Vectors.{lcm}
@@ -10,16 +10,15 @@ use Rattle.ct_instance.specs.Instance.{Problem, grade_of}
 use Rattle.ct_instance.specs.TestSet.{Binomial}
 use Rattle.ct_instance.specs.Jobs.{IsJob, JobComesBefore, the_move, job_grade_of, all_jobs}
 use Rattle.ct_instance.specs.Versions.{least_above}
-use Rattle.ct_instance.proofs.Lists.{Contains-here, Contains-there, Contains-cons_cases, Contains-nil, Contains-filter, filter_gives}
+use Rattle.ct_instance.proofs.Lists.{Contains-here, Contains-there, Contains-filter, filter_gives}
 use Rattle.ct_instance.proofs.Ordered.{InOrder-filter, InOrder-unique}
 use Rattle.ct_instance.proofs.Above.{least_above-same}
 use Rattle.ct_instance.proofs.JobsList.{jobs_listed, jobs_in_order}
 use Rattle.ct_walk.proofs.Ends.{the_move_is, the_move_at}
 use Rattle.ct_walk.proofs.Steps.{move_at-append}
 use Rattle.ct_jobs.specs.declared.graded.GradedJob.{GradedJob}
-use Rattle.ct_jobs.specs.GradedJobs.{with_grade, graded_jobs, AreJobsOf, is_pair_from, graded_pairs_from, next_grade, lesser_of}
+use Rattle.ct_jobs.specs.GradedJobs.{with_grade, graded_jobs, AreJobsOf, is_pair_from, graded_pairs_from, next_grade}
 use Rattle.ct_jobs.proofs.JobOrder.{before_one_way}
-use Rattle.ct_jobs.proofs.NextGrades.{least_above-cons}
 
 -- ---- the order is strict
 

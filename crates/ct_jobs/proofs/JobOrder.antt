@@ -1,8 +1,8 @@
 -- The derived order of jobs is the job order, and a list in that order is told by its elements.
-use Rattle.std.proofs.Common.{ℕ, ◌+◌, ◌≤◌, ◌<◌, ◌≡◌, ◌⊎◌, inl, inr, ⊎_elim, Bool, true, false, true≢false, ◌&&◌, cond, nat_eq, nat_lt, List, [], ◌∷◌, length, get_or, Contains, AllPairs, IsSorted, sum_by, refl, sym, ap, ap₂, subst, ◌∙◌, arith, zero, suc, eqb-true, eq-eqb}
+use Rattle.std.proofs.Common.{ℕ, ◌+◌, ◌≤◌, ◌<◌, ◌≡◌, ◌⊎◌, inl, inr, ⊎_elim, Bool, true, false, true≢false, cond, nat_eq, nat_lt, List, [], ◌∷◌, length, get_or, Contains, AllPairs, IsSorted, sum_by, refl, sym, ap, ap₂, subst, ◌∙◌, arith, zero, suc, eq-eqb}
 use Rattle.std.specs.declared.cmp.Ordering.TheVariants.{Less, Equal, Greater}
 use Rattle.std.specs.Ordering.{is_lt, ordering_then}
-use Rattle.std.proofs.lemmas.Bool.{cases_lt, lt-ltb, and_parts, and_from}
+use Rattle.std.proofs.lemmas.Bool.{cases_lt, lt-ltb}
 use Rattle.std.proofs.lemmas.List.Sums.{sum_by-cons}
 use Rattle.ct_instance.specs.declared.jobs.Job.{Job}
 use Rattle.ct_instance.specs.declared.jobs.Job.TheVariants.{Generator, Pair}

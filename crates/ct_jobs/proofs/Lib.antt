@@ -1,5 +1,6 @@
 pub mod TwoHeads
 pub mod PairGrades
+pub mod GradesBySupport
 pub mod NextGrades
 pub mod Rows
 pub mod JobOrder

@@ -1,10 +1,9 @@
 -- Bounds on the grade of a pair and on the coordinates of its ends.
-use Rattle.std.proofs.Common.{ℕ, ◌+◌, ◌-◌, ◌≤◌, ◌≡◌, List, [], length, map, get_or, sym, ap, subst, ◌∙◌, arith, refl, Bool, ◌↔◌, IsTrue, ap₂, zero, suc}
+use Rattle.std.proofs.Common.{ℕ, ◌+◌, ◌-◌, ◌≤◌, ◌≡◌, List, [], length, map, get_or, sym, ap, subst, ◌∙◌, arith, Bool, ◌↔◌, IsTrue, ap₂, zero, suc}
 use Rattle.std.proofs.lemmas.List.{get_or_default, get_or-map}
 use Rattle.ct_vectors.specs.declared.limits.TheConstants.{JOB_GRADE_LIMIT}
-use Rattle.ct_vectors.specs.Vectors.{total, add, lcm, Disjoint, disjoint}
-use Rattle.ct_vectors.proofs.Sums.{length-add_same}
-use Rattle.ct_vectors.proofs.Divisors.{Divides-add, Divides-add_left, Divides-lcm, lcm-divides, length-lcm, Disjoint-from_test, test_from_Disjoint}
+use Rattle.ct_vectors.specs.Vectors.{total, lcm, Disjoint, disjoint}
+use Rattle.ct_vectors.proofs.Divisors.{Divides-lcm, length-lcm, Disjoint-from_test, test_from_Disjoint}
 use Rattle.ct_instance.specs.Instance.{Problem, IsPoint, column_count, degree_of, grade_of}
 use Rattle.ct_instance.specs.TestSet.{Binomial}
 use Rattle.ct_instance.specs.Walk.{IsMove}

@@ -3,3 +3,4 @@ pub mod Kept
 pub mod Leaves
 pub mod Laws
 pub mod PairsByGrade
+pub mod Supports

@@ -1,10 +1,11 @@
 //! Pairs that are to be added.
-ghost use Rattle.std.specs.Prelude.{◌≡◌, ◌≤◌, ◌<◌, ◌++◌, [], length, map, IfOk, OnOk};
+ghost use Rattle.std.specs.Prelude.{◌≡◌, ◌≤◌, ◌<◌, ◌-◌, ◌++◌, [], length, map, IfOk, OnOk};
 ghost use Rattle.ct_jobs.specs.GradedJobs.{with_grade, graded_pairs_from, row_from};
 ghost use Rattle.ct_jobs.specs.Kept.{pair_of};
+ghost use Rattle.ct_jobs.specs.Supports.{supports_between};
 
-use crate::critical::pair_grade;
 use crate::graded::GradedPair;
+use crate::supports::{Supports, excess};
 use ct_instance::Instance;
 use ct_walk::Moves;
 use std::alloc::{AllocError, Global};
@@ -50,9 +51,10 @@ impl Addition {
         if from > count {
             return Ok(Addition::none(alloc));
         }
+        let supports = Supports::of_new_moves(alloc, inst, moves, from.saturating_sub(1))?;
         let mut pairs = Vec::new(alloc);
         for i in 0..count {
-            add_row(inst, moves, from, i + 1, &mut pairs)?;
+            add_row(inst, moves, from, &supports, i + 1, &mut pairs)?;
         }
         Ok(Addition { pairs })
     }
@@ -73,24 +75,31 @@ impl Addition {
     }
 }
 
-// Appends the pairs of the move i with the moves after it, from `from` on.
+// Appends the pairs of the move i with the moves after it, from `from` on; these are the supports of the heads from there
+// on. The grade of a pair is that of the earlier head and of what the later head has beyond it.
 fn add_row(
     inst: &Instance,
     moves: &Moves,
     from: u32,
+    supports: &Supports,
     i: u32,
     pairs: &mut Vec<GradedPair>,
 ) -> Result<(), AllocError>
     requires instance { moves.now.instance ≡ inst.now }
+    requires supports { supports.now ≡ supports_between inst.now moves.now.moves (from - 1) (length moves.now.moves) }
     requires some { 1 ≤ i }
     requires in_list { i ≤ length moves.now.moves }
     ensures { OnOk result (map pair_of pairs.new.items ≡ map pair_of pairs.old.items ++ map (with_grade inst.now moves.now.moves) (row_from from i (length moves.now.moves))) }
 {
-    let count = moves.len();
-    for k in i.max(from.saturating_sub(1))..count {
-        let grade = pair_grade(inst, moves, i, k + 1);
+    // For its facts alone: these are moves of the instance, within the limits.
+    let _instance = moves.instance();
+    let head = moves.get(i).head();
+    let own = inst.grade(head);
+    let known = from.saturating_sub(1);
+    for k in i.max(known)..moves.len() {
+        let beyond = excess(supports.get((k - known) as usize), head.as_slice());
         pairs.push(GradedPair {
-            grade,
+            grade: own + beyond,
             first: i,
             second: k + 1,
         })?;

@@ -18,6 +18,8 @@ use std::marker::Model;
 ///
 /// The pairs stand in an ordered map by grade: 8 bytes each in the list of their grade, which may have room for as many
 /// again, and some 50 to 150 bytes for a grade. The generators and the last addition stand beside it, with 16 bytes a job.
+/// While an addition is prepared each coordinate of a new head that isn't 0 takes 24 bytes more; that is linear in the
+/// pairs times the number of such coordinates of a head, and in the moves times the width.
 #[derive(Debug, Drop)]
 pub struct Buckets {
     generators: Vec<GradedGenerator>,
@@ -60,7 +62,9 @@ impl Buckets {
     }
 
     /// The pairs of the moves whose greater number is at least `from`, with their grades. It is linear in the number of
-    /// those pairs times the width, and takes 16 bytes a pair; where there are no new moves it returns at once.
+    /// those pairs times the support of a new head, the coordinates of it that aren't 0, and in the moves times the width.
+    /// It takes 16 bytes a pair, and while it prepares 24 bytes a coordinate of those supports and 16 bytes a new move;
+    /// where there are no new moves it returns at once.
     pub fn prepare(
         alloc: Global,
         inst: &Instance,
@@ -113,7 +117,8 @@ impl Buckets {
     }
 
     /// The jobs of one grade, among the jobs and those of an addition, in job order. It looks at what `next_with` looks
-    /// at, and sorts the jobs of that grade.
+    /// at, and sorts the jobs of that grade. Each addition has left one rising or falling run of them, so where these are
+    /// few and long that is nearly linear. While it sorts it takes a buffer as long as their list.
     pub fn jobs_with(
         &self,
         alloc: Global,
@@ -129,7 +134,7 @@ impl Buckets {
         self.merged.gather_pairs(&mut jobs, grade)?;
         gather(&mut jobs, &self.parked, grade)?;
         gather(&mut jobs, more.as_slice(), grade)?;
-        jobs.sort_unstable();
+        jobs.sort()?;
         Ok(jobs)
     }
 }

@@ -123,8 +123,8 @@ fn left_into(moves: &Moves, i: u32, k: u32, p: &mut Point)
     write_left(p, moves.get(i), moves.get(k));
 }
 
-/// The grade of the pair of two moves, the smaller number first. It is linear in the width and takes no memory.
-pub fn pair_grade(inst: &Instance, moves: &Moves, i: u32, k: u32) -> u64
+// The grade of the pair of two moves, the smaller number first.
+fn pair_grade(inst: &Instance, moves: &Moves, i: u32, k: u32) -> u64
     requires instance { moves.now.instance ≡ inst.now }
     requires job { IsJob inst.now moves.now.moves (Job.Pair i k) }
     ensures { result ≡ job_grade_of inst.now moves.now.moves (Job.Pair i k) }

@@ -15,10 +15,11 @@ mod heads;
 pub mod laws;
 mod one_grade;
 mod scans;
+mod supports;
 
 pub use addition::Addition;
 pub use buckets::Buckets;
-pub use critical::{coprime, ends, ends_into, job_grade, pair_grade};
+pub use critical::{coprime, ends, ends_into, job_grade};
 pub use graded::GradedJob;
 
 #[cfg(test)]

@@ -8,7 +8,7 @@ use Rattle.ct_jobs.proofs.OneGrade.{jobs_are_listed}
 use Rattle.ct_jobs.proofs.buckets.Buckets.jobs_with.Goals as goal
 
 pub returns-clause-order : goal.returns-clause-order
-returns-clause-order c = in_job_order c.sort_unstable.new.self.items c.sort_unstable.ensures.sorted
+returns-clause-order c = in_job_order c.sort.new.self.items c.in_ok-sort.ensures.sorted
 
 pub returns-clause-exact : goal.returns-clause-exact
 returns-clause-exact c i ms a =
@@ -26,6 +26,6 @@ returns-clause-exact c i ms a =
     let fourth : c.gather-3.new.out.items ≡ all =
     c.in_ok-gather-3.ensures ∙ ap₂ ◌++◌ (third ∙ ap (λ s. of_grade g s.jobs) c.self.view_is) (ap (of_grade g) c.as_slice.ensures) ∙
     sym (of_grade-append g c.args.self.now.jobs c.args.more.now) in
-    jobs_are_listed i ms g (c.args.self.now.jobs ++ c.args.more.now) c.sort_unstable.new.self.items a
-    (subst (λ l. IsPermutation l c.sort_unstable.new.self.items) fourth c.sort_unstable.ensures.permutation)
-    (in_job_order c.sort_unstable.new.self.items c.sort_unstable.ensures.sorted)
+    jobs_are_listed i ms g (c.args.self.now.jobs ++ c.args.more.now) c.sort.new.self.items a
+    (subst (λ l. IsPermutation l c.sort.new.self.items) fourth c.in_ok-sort.ensures.permutation)
+    (in_job_order c.sort.new.self.items c.in_ok-sort.ensures.sorted)

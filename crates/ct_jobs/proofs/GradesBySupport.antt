@@ -6,10 +6,10 @@ use Rattle.std.proofs.lemmas.Bool.{cases_lt, lt-ltb, le-ltb}
 use Rattle.std.proofs.lemmas.List.{length-map, map-append, get_or-map, get_or_append_left, get_or-append-add, take_all, take-append-le, drop-append-le}
 use Rattle.std.proofs.lemmas.List.Elements.{All-map, All-filter, filter-append, recursion_from_All}
 use Rattle.std.proofs.lemmas.List.Sums.{sum_by-append}
+use Rattle.ct_vectors.specs.declared.limits.TheConstants.{JOB_GRADE_LIMIT}
 use Rattle.ct_vectors.specs.Vectors.{total, add, subtract, lcm}
 use Rattle.ct_vectors.proofs.Sums.{cons_same, length-subtract}
 use Rattle.ct_point.proofs.Places.{get_or-subtract}
-use Rattle.ct_vectors.specs.declared.limits.TheConstants.{JOB_GRADE_LIMIT}
 use Rattle.ct_instance.specs.declared.jobs.Job.TheVariants.{Pair}
 use Rattle.ct_instance.specs.Instance.{Problem, grade_of, weighted}
 use Rattle.ct_instance.specs.Made.{indices}
@@ -170,14 +170,14 @@ spans_push ts more all ss s h e a b =
 
 -- ---- a new pair
 
--- these parts have beyond p, the head of the move a, what makes the grade of the pair of a and b
-pub record MakesGrade (i : Problem) (ms : List Binomial) (a b : ℕ) (p : List ℕ) (ts : List Part) : Type 0 where
+-- the grade of the head p of the move a, and what these parts have beyond it, make the grade of the pair of a and b
+pub record MakesGrade (i : Problem) (ms : List Binomial) (a b own : ℕ) (p : List ℕ) (ts : List Part) : Type 0 where
   pub places : All (λ (t : Part). t.place < length p) ts
-  pub sum : grade_of i.columns (the_move ms a).head + sum_by (excess_over p) ts ≡ job_grade_of i ms (Pair a b)
+  pub sum : own + sum_by (excess_over p) ts ≡ job_grade_of i ms (Pair a b)
   pub limit : job_grade_of i ms (Pair a b) ≤ JOB_GRADE_LIMIT
 
 support_makes_grade : (l : MoveList) → IsMoveList l → (a b : ℕ) → 1 ≤ a → a ≤ length l.moves → 1 ≤ b → b ≤ length l.moves →
-    MakesGrade l.instance l.moves a b (the_move l.moves a).head (support_of l.instance l.moves b)
+    MakesGrade l.instance l.moves a b (grade_of l.instance.columns (the_move l.moves a).head) (the_move l.moves a).head (support_of l.instance l.moves b)
 support_makes_grade l h a b some-a within-a some-b within-b =
     let i = l.instance in
     let x : IsSmallMove i (the_move l.moves a) = small_move l h a some-a within-a in
@@ -191,10 +191,14 @@ support_makes_grade l h a b some-a within-a some-b within-b =
 
 -- the parts that are looked up for the move with the number k + 1
 pub found_makes_grade : (l : MoveList) → IsMoveList l → (i : Problem) → l.instance ≡ i → (known a k : ℕ) → 1 ≤ a → a ≤ k → known ≤ k → k < length l.moves →
-    (p : List ℕ) → p ≡ (the_move l.moves a).head → (all : List (List Part)) → all ≡ supports_between i l.moves known (length l.moves) →
-    (ts : List Part) → ts ≡ get_or all (k - known) [] → MakesGrade i l.moves a (k + 1) p ts
-found_makes_grade l h i same known a k some low from high p head all supports ts found =
+    (own : ℕ) (p q : List ℕ) → p ≡ q → q ≡ (the_move l.moves a).head → own ≡ grade_of i.columns q →
+    (all : List (List Part)) → all ≡ supports_between i l.moves known (length l.moves) → (ts : List Part) → ts ≡ get_or all (k - known) [] →
+    MakesGrade i l.moves a (k + 1) own p ts
+found_makes_grade l h i same known a k some low from high own p q slice head grade all supports ts found =
+    let m = the_move l.moves a in
     let listed : support_of i l.moves (k + 1) ≡ ts = sym (found ∙ ap (λ s. get_or s (k - known) []) supports ∙ support_at i l.moves known (length l.moves) k from high) in
-    subst (λ q. MakesGrade i l.moves a (k + 1) q ts) (sym head) (subst (MakesGrade i l.moves a (k + 1) (the_move l.moves a).head) listed
-    (subst (λ j. MakesGrade j l.moves a (k + 1) (the_move l.moves a).head (support_of j l.moves (k + 1))) same
-    (support_makes_grade l h a (k + 1) some (omega arith) (omega arith) (omega arith))))
+    subst (λ g. MakesGrade i l.moves a (k + 1) g p ts) (sym (grade ∙ ap (grade_of i.columns) head))
+    (subst (λ r. MakesGrade i l.moves a (k + 1) (grade_of i.columns m.head) r ts) (sym (slice ∙ head))
+    (subst (MakesGrade i l.moves a (k + 1) (grade_of i.columns m.head) m.head) listed
+    (subst (λ j. MakesGrade j l.moves a (k + 1) (grade_of j.columns m.head) m.head (support_of j l.moves (k + 1))) same
+    (support_makes_grade l h a (k + 1) some (omega arith) (omega arith) (omega arith)))))

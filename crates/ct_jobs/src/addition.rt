@@ -5,7 +5,7 @@ ghost use Rattle.ct_jobs.specs.Kept.{pair_of};
 ghost use Rattle.ct_jobs.specs.Supports.{supports_between};
 
 use crate::graded::GradedPair;
-use crate::supports::{Supports, excess};
+use crate::supports::{Supports, grade_with};
 use ct_instance::Instance;
 use ct_walk::Moves;
 use std::alloc::{AllocError, Global};
@@ -97,9 +97,10 @@ fn add_row(
     let own = inst.grade(head);
     let known = from.saturating_sub(1);
     for k in i.max(known)..moves.len() {
-        let beyond = excess(supports.get((k - known) as usize), head.as_slice());
+        let later = supports.get((k - known) as usize);
+        let grade = grade_with(own, later, head.as_slice());
         pairs.push(GradedPair {
-            grade: own + beyond,
+            grade,
             first: i,
             second: k + 1,
         })?;

@@ -1,5 +1,5 @@
 //! The supports of heads: the coordinates that aren't 0, of which there are few.
-ghost use Rattle.std.specs.Prelude.{◌≡◌, ◌≤◌, ◌<◌, ◌^◌, ◌++◌, ◌∷◌, [], length, All, slice_index_or, IfOk, OnOk, sum_by};
+ghost use Rattle.std.specs.Prelude.{◌≡◌, ◌+◌, ◌≤◌, ◌<◌, ◌^◌, ◌++◌, ◌∷◌, [], length, All, slice_index_or, IfOk, OnOk, sum_by};
 ghost use Rattle.ct_jobs.specs.Supports.{excess_over, support, supports_between};
 
 use ct_instance::Instance;
@@ -108,15 +108,15 @@ fn push_support(parts: &mut Vec<Part>, sums: &[u64], head: &[u64]) -> Result<(),
     Ok(())
 }
 
-// What these parts have beyond a point, as a grade.
-pub fn excess(parts: &[Part], p: &[u64]) -> u64
+// A grade, and what these parts have beyond a point.
+pub fn grade_with(own: u64, parts: &[Part], p: &[u64]) -> u64
     requires places { All (λ t. t.place < length p.now) parts.now }
-    requires fits { sum_by (excess_over p.now) parts.now < 2 ^ 64 }
-    ensures { result ≡ sum_by (excess_over p.now) parts.now }
+    requires fits { own + sum_by (excess_over p.now) parts.now < 2 ^ 64 }
+    ensures { result ≡ own + sum_by (excess_over p.now) parts.now }
 {
-    let mut sum = 0;
+    let mut grade = own;
     for part in parts {
-        sum += part.weight * part.value.saturating_sub(p[part.place]);
+        grade += part.weight * part.value.saturating_sub(p[part.place]);
     }
-    sum
+    grade
 }

@@ -1,10 +1,8 @@
 //! The groups of some points, and the least point of each.
-ghost use Rattle.std.specs.Prelude.{[], ◌≡◌, ◌+◌, ◌-◌, ◌≤◌, ◌<◌, ◌++◌, ◌∷◌, None, Option, ℕ, length, map, get_or, set, All, IfOk, OnOk, MatchOption};
+ghost use Rattle.std.specs.Prelude.{[], ◌≡◌, ◌+◌, ◌<◌, ◌++◌, ◌∷◌, length, get_or, set, All, IfOk, OnOk};
 ghost use Rattle.std.specs.Ordering.{nat_cmp};
 ghost use Rattle.std.specs.Cmp.Lexicographic.{slice_cmp};
 ghost use Rattle.std.specs.BTreeMap.{get};
-ghost use Rattle.ct_vectors.specs.declared.limits.TheConstants.{JOB_GRADE_LIMIT};
-ghost use Rattle.ct_instance.specs.Instance.{IsPoint, grade_of};
 ghost use Rattle.ct_instance.specs.Fiber.{is_lower};
 ghost use Rattle.ct_groups.specs.Groups.{points_seen, IsSmallPoint, key_of, lower_of, KnowsGroups, HasGroups};
 

@@ -1,7 +1,5 @@
 //! Each point beside the least of its degree.
-ghost use Rattle.std.specs.Prelude.{[], ◌≡◌, ◌+◌, ◌≤◌, ◌<◌, ◌++◌, ◌↔◌, ℕ, List, length, map, get_or, All, Contains, IfOk, OnOk};
-ghost use Rattle.std.specs.Ordering.{nat_cmp};
-ghost use Rattle.std.specs.Cmp.Lexicographic.{slice_cmp};
+ghost use Rattle.std.specs.Prelude.{[], ◌≡◌, ◌+◌, ◌<◌, ◌↔◌, ℕ, List, length, map, get_or, All, Contains, IfOk, OnOk};
 ghost use Rattle.std.specs.List.Sorted.{IsStrictlySortedBy};
 ghost use Rattle.ct_instance.specs.TestSet.{Binomial};
 ghost use Rattle.ct_walk.specs.Moves.{IsSmallMove};

@@ -1,12 +1,10 @@
-//! The least point of each degree.
-ghost use Rattle.std.specs.Prelude.{[], ◌≡◌, ◌+◌, ◌-◌, ◌≤◌, ◌<◌, ◌++◌, None, Option, ℕ, true, length, map, get_or, All, IfOk, OnOk, IfSome, MatchOption, Bool};
+//! The groups of some points, and the least point of each.
+ghost use Rattle.std.specs.Prelude.{[], ◌≡◌, ◌+◌, ◌<◌, ◌++◌, ◌∷◌, length, get_or, set, All, IfOk, OnOk};
 ghost use Rattle.std.specs.Ordering.{nat_cmp};
 ghost use Rattle.std.specs.Cmp.Lexicographic.{slice_cmp};
 ghost use Rattle.std.specs.BTreeMap.{get};
-ghost use Rattle.ct_vectors.specs.declared.limits.TheConstants.{JOB_GRADE_LIMIT};
-ghost use Rattle.ct_instance.specs.Instance.{IsPoint, grade_of};
 ghost use Rattle.ct_instance.specs.Fiber.{is_lower};
-ghost use Rattle.ct_groups.specs.Groups.{points_seen, IsSmallPoint, key_of, KnowsLeast, IsLeastOf};
+ghost use Rattle.ct_groups.specs.Groups.{points_seen, IsSmallPoint, key_of, lower_of, KnowsGroups, HasGroups};
 
 use ct_instance::Instance;
 use ct_order::compare;
@@ -16,73 +14,90 @@ use std::alloc::{AllocError, Global};
 use std::cmp::Ordering;
 use std::collections::BTreeMap;
 
-// By the degree of a point, with zeros behind it, the place of the least point of that degree.
-pub type LeastByDegree = BTreeMap<[u64; ROW_LIMIT], usize>;
+// The number of the group of a degree, with zeros behind the degree.
+type GroupNumbers = BTreeMap<[u64; ROW_LIMIT], usize>;
 
-// The least point of each degree among these points: of each degree one entry of 136 bytes, found in the logarithm of
-// their number.
-pub fn least_by_degree(
-    alloc: Global,
-    inst: &Instance,
-    points: &[&Point],
-) -> Result<LeastByDegree, AllocError>
-    requires { All (IsSmallPoint inst.now) (points_seen points.now) }
-    ensures { IfOk result (λ m. KnowsLeast inst.now (points_seen points.now) (length points.now) (get (slice_cmp nat_cmp) m)) }
-{
-    let mut least = BTreeMap::new(alloc);
-    for k in 0..points.len() {
-        put(inst, points, &mut least, k)?;
-    }
-    Ok(least)
+// The groups of some points: of each point the number of its group, and of each group the place of its least point.
+#[derive(Drop)]
+pub struct Groups {
+    pub of_point: Vec<usize>,
+    pub least: Vec<usize>,
 }
 
-// The place of the least point of the degree of the point at place k.
-pub fn place_of_least(inst: &Instance, points: &[&Point], least: &LeastByDegree, k: usize) -> usize
-    requires points { All (IsSmallPoint inst.now) (points_seen points.now) }
-    requires place { k < length points.now }
-    requires knows { KnowsLeast inst.now (points_seen points.now) (length points.now) (get (slice_cmp nat_cmp) least.now) }
-    ensures { IsLeastOf inst.now (points_seen points.now) (length points.now) (key_of inst.now (get_or (points_seen points.now) k [])) result }
+// The groups of these points, numbered as their degrees first come. While it looks, it keeps an entry of 136 bytes a
+// degree, found in the logarithm of their number.
+pub fn groups_of(alloc: Global, inst: &Instance, points: &[&Point]) -> Result<Groups, AllocError>
+    requires { All (IsSmallPoint inst.now) (points_seen points.now) }
+    ensures { IfOk result (λ g. HasGroups inst.now (points_seen points.now) (length points.now) g) }
 {
-    let key = degree_key(inst, points[k]);
-    let Some(place) = least.get(&key) else {
-        unreachable!()
+    let mut numbers = BTreeMap::new(alloc);
+    let mut groups = Groups {
+        of_point: Vec::with_capacity(alloc, points.len())?,
+        least: Vec::new(alloc),
     };
-    *place
+    for k in 0..points.len() {
+        put(inst, points, &mut numbers, &mut groups, k)?;
+    }
+    Ok(groups)
 }
 
 // Takes the point at place k into account, where those before it are.
 fn put(
     inst: &Instance,
     points: &[&Point],
-    least: &mut LeastByDegree,
+    numbers: &mut GroupNumbers,
+    groups: &mut Groups,
     k: usize,
 ) -> Result<(), AllocError>
     requires points { All (IsSmallPoint inst.now) (points_seen points.now) }
     requires place { k < length points.now }
-    requires knows { KnowsLeast inst.now (points_seen points.now) k (get (slice_cmp nat_cmp) least.old) }
-    ensures { OnOk result (KnowsLeast inst.now (points_seen points.now) (k + 1) (get (slice_cmp nat_cmp) least.new)) }
+    requires knows { KnowsGroups inst.now (points_seen points.now) k (get (slice_cmp nat_cmp) numbers.old) groups.old }
+    ensures { OnOk result (KnowsGroups inst.now (points_seen points.now) (k + 1) (get (slice_cmp nat_cmp) numbers.new) groups.new) }
 {
     let key = degree_key(inst, points[k]);
-    let known = least.get(&key).copied();
-    if !is_new_least(inst, points, known, k) {
-        return Ok(());
+    let known = numbers.get(&key).copied();
+    if let Some(group) = known {
+        return join(inst, points, groups, group, k);
     }
-    least.insert(key, k)?;
+    let group = groups.least.len();
+    numbers.insert(key, group)?;
+    groups.of_point.push(group)?;
+    groups.least.push(k)?;
     Ok(())
 }
 
-// Whether the point at place k is lower than the one that is known, if one is.
-fn is_new_least(inst: &Instance, points: &[&Point], known: Option<usize>, k: usize) -> bool
+// Adds the point at place k to this group.
+fn join(
+    inst: &Instance,
+    points: &[&Point],
+    groups: &mut Groups,
+    group: usize,
+    k: usize,
+) -> Result<(), AllocError>
     requires points { All (IsSmallPoint inst.now) (points_seen points.now) }
     requires place { k < length points.now }
-    requires known { IfSome known (λ b. b < length points.now) }
-    ensures none { known ≡ None → result ≡ true }
-    ensures some { IfSome known (λ b. result ≡ is_lower inst.now (get_or (points_seen points.now) k []) (get_or (points_seen points.now) b [])) }
+    requires group { group < length groups.old.least.items }
+    requires least { get_or groups.old.least.items group 0 < length points.now }
+    ensures of_point { OnOk result (groups.new.of_point.items ≡ groups.old.of_point.items ++ group ∷ []) }
+    ensures least { groups.new.least.items ≡ set groups.old.least.items group (lower_of inst.now (points_seen points.now) k (get_or groups.old.least.items group 0)) }
 {
-    let Some(best) = known else {
-        return true;
-    };
-    is_lower_point(inst, points[k], points[best])
+    groups.least[group] = lower_place(inst, points, k, groups.least[group]);
+    groups.of_point.push(group)?;
+    Ok(())
+}
+
+// Of two places the one whose point is lower, and b where neither is.
+fn lower_place(inst: &Instance, points: &[&Point], a: usize, b: usize) -> usize
+    requires points { All (IsSmallPoint inst.now) (points_seen points.now) }
+    requires a { a < length points.now }
+    requires b { b < length points.now }
+    ensures { result ≡ lower_of inst.now (points_seen points.now) a b }
+{
+    if is_lower_point(inst, points[a], points[b]) {
+        a
+    } else {
+        b
+    }
 }
 
 // Whether p is below q.

@@ -1,15 +1,12 @@
 //! Each point beside the least of its degree.
-ghost use Rattle.std.specs.Prelude.{[], ◌≡◌, ◌+◌, ◌≤◌, ◌<◌, ◌++◌, ◌↔◌, ℕ, List, length, map, get_or, All, Contains, IfOk, OnOk};
-ghost use Rattle.std.specs.Ordering.{nat_cmp};
-ghost use Rattle.std.specs.Cmp.Lexicographic.{slice_cmp};
+ghost use Rattle.std.specs.Prelude.{[], ◌≡◌, ◌+◌, ◌<◌, ◌↔◌, ℕ, List, length, map, get_or, All, Contains, IfOk, OnOk};
 ghost use Rattle.std.specs.List.Sorted.{IsStrictlySortedBy};
-ghost use Rattle.std.specs.BTreeMap.{get};
 ghost use Rattle.ct_instance.specs.TestSet.{Binomial};
 ghost use Rattle.ct_walk.specs.Moves.{IsSmallMove};
-ghost use Rattle.ct_groups.specs.Groups.{points_seen, IsSmallPoint, key_of, KnowsLeast, IsLeastOf};
+ghost use Rattle.ct_groups.specs.Groups.{points_seen, IsSmallPoint, key_of, HasGroups, IsLeastOf};
 ghost use Rattle.ct_groups.specs.Pairs.{pair_seen, pair_order, HasPairs};
 
-use crate::least::{LeastByDegree, place_of_least};
+use crate::least::Groups;
 use ct_instance::Instance;
 use ct_point::Point;
 use ct_vectors::limits::GRADE_LIMIT;
@@ -29,15 +26,15 @@ pub fn pairs_to_least<'a>(
     alloc: Global,
     inst: &Instance,
     points: &[&'a Point],
-    least: &LeastByDegree,
+    groups: &Groups,
 ) -> Result<Vec<Pair<'a>>, AllocError>
     requires points { All (IsSmallPoint inst.now) (points_seen points.now) }
-    requires knows { KnowsLeast inst.now (points_seen points.now) (length points.now) (get (slice_cmp nat_cmp) least.now) }
+    requires groups { HasGroups inst.now (points_seen points.now) (length points.now) groups.now }
     ensures { IfOk result (λ v. HasPairs inst.now (points_seen points.now) (length points.now) v.items) }
 {
     let mut pairs = Vec::new(alloc);
     for k in 0..points.len() {
-        let place = place_of_least(inst, points, least, k);
+        let place = groups.least[groups.of_point[k]];
         push_pair(inst, points, &mut pairs, k, place)?;
     }
     Ok(pairs)

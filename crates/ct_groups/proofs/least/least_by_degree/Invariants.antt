@@ -1,8 +1,0 @@
-use Rattle.std.specs.Ordering.{nat_cmp}
-use Rattle.std.specs.Cmp.Lexicographic.{slice_cmp}
-use Rattle.std.specs.BTreeMap.{get}
-use Rattle.ct_groups.specs.Groups.{points_seen, KnowsLeast}
-use Rattle.ct_groups.proofs.least.least_by_degree.Given as goal
-
-abbrev pub invariant-loop-k : goal.invariant-loop-k
-invariant-loop-k l = KnowsLeast l.inst (points_seen l.points) l.k (get (slice_cmp nat_cmp) l.least)

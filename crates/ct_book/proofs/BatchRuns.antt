@@ -1,9 +1,8 @@
 -- Jobs that are handed out, reduced and taken in together.
-use Rattle.std.proofs.Common.{◌≡◌, ℕ, ◌+◌, ◌≤◌, ◌<◌, List, [], ◌∷◌, ◌++◌, map, reverse, length, All, get_or, sym, ap, subst, ◌∙◌, refl, arith, suc, append_assoc, append-nil, length-map}
-use Rattle.std.proofs.lemmas.List.{get_or-map}
+use Rattle.std.proofs.Common.{◌≡◌, ℕ, ◌+◌, List, [], ◌∷◌, ◌++◌, map, reverse, All, get_or, sym, ap, subst, ◌∙◌, refl, arith, suc, append_assoc, append-nil}
+use Rattle.std.proofs.lemmas.List.{get_or-map, length-map, reverse-append}
 use Rattle.std.proofs.lemmas.List.Elements.{All-push}
 use Rattle.ct_instance.specs.Instance.{Problem}
-use Rattle.ct_completion.specs.Journal.{entries_of}
 use Rattle.ct_book.specs.declared.outcomes.Committed.{Committed}
 use Rattle.ct_book.specs.declared.outcomes.Committed.TheVariants.{Stored, Already}
 use Rattle.ct_book.specs.Tasks.{TaskSeen, RemainderSeen, task_of}
@@ -15,10 +14,16 @@ pub handed_more : (b m c : BookSeen) (g : ℕ) (ts : List TaskSeen) (t : TaskSee
 handed_more b m c g [] t h k = (c, subst (λ (x : BookSeen). IsHandedOut x g t c) h k, refl)
 handed_more b m c g (u ∷ ts) t h k = (h.0, h.1, handed_more h.0 m c g ts t h.2 k)
 
+-- handing out writes nothing down
+pub handed_journal : (b c : BookSeen) (g : ℕ) (ts : List TaskSeen) → AreHandedOut b g ts c → c.journal ≡ b.journal
+handed_journal b c g [] h = ap (λ (x : BookSeen). x.journal) h
+handed_journal b c g (t ∷ ts) h =
+    handed_journal h.0 c g ts h.2 ∙ ap (λ (x : BookSeen). x.journal) ((h.1).steps).kept ∙ append-nil b.journal
+
 -- what a commit keeps
 pub committed_kept : (b : BookSeen) (by : ℕ) (r : RemainderSeen) (c : BookSeen) (done : Committed) → IsCommitted b by r c done →
     (c.instance ≡ b.instance) × (c.passes ≡ b.passes)
-committed_kept b by r c (Stored place) h = (ap (λ (x : BookSeen). x.instance) (h.2.1).kept, ap (λ (x : BookSeen). x.passes) (h.2.1).kept)
+committed_kept b by r c (Stored place) h = (ap (λ (x : BookSeen). x.instance) (h.2).kept, ap (λ (x : BookSeen). x.passes) (h.2).kept)
 committed_kept b by r c (Already number) h = (ap (λ (x : BookSeen). x.instance) h.1, ap (λ (x : BookSeen). x.passes) h.1)
 
 -- ---- what is kept of a list of remainders from its end on
@@ -76,21 +81,22 @@ pub reduces_more : (all left rest : List TaskSeen) (t : TaskSeen) (rs more : Lis
 reduces_more all left rest t rs more h e k = record {
   taken = t ∷ h.taken;
   parts = h.parts ∙ ap (λ (l : List TaskSeen). l ++ h.taken) e ∙ append_assoc rest (t ∷ []) h.taken;
-  reduced = k ∙ ap (λ (l : List TaskSeen). l ++ t ∷ []) h.reduced;
+  reduced = k ∙ ap (λ (l : List TaskSeen). l ++ t ∷ []) h.reduced ∙ sym (reverse-append (t ∷ []) h.taken);
 }
 
 pub reduces_end : (all left : List TaskSeen) (first : TaskSeen) (rs more : List RemainderSeen) →
     HasReduced all left rs → left ≡ [] → map task_of more ≡ map task_of rs ++ first ∷ [] → map task_of more ≡ reverse (first ∷ all)
 reduces_end all left first rs more h e k =
     let same : all ≡ h.taken = h.parts ∙ ap (λ (l : List TaskSeen). l ++ h.taken) e in
-    k ∙ ap (λ (l : List TaskSeen). l ++ first ∷ []) (h.reduced ∙ ap reverse (sym same))
+    k ∙ ap (λ (l : List TaskSeen). l ++ first ∷ []) (h.reduced ∙ ap reverse (sym same)) ∙ sym (reverse-append (first ∷ []) all)
 
 -- ---- the instance of the tasks is that of what they leave
 
 all_reversed : (i : Problem) (ts : List TaskSeen) → All (λ (t : TaskSeen). (t.version).instance ≡ i) ts → All (λ (t : TaskSeen). (t.version).instance ≡ i) (reverse ts)
 all_reversed i [] h = h
 all_reversed i (t ∷ ts) h =
-    All-push (λ (u : TaskSeen). (u.version).instance ≡ i) (reverse ts) t (all_reversed i ts (λ k d l. h (suc k) d (omega (arith, l)))) (h 0 t (omega arith))
+    subst (All (λ (u : TaskSeen). (u.version).instance ≡ i)) (sym (reverse-append (t ∷ []) ts))
+    (All-push (λ (u : TaskSeen). (u.version).instance ≡ i) (reverse ts) t (all_reversed i ts (λ k d l. h (suc k) d (omega (arith, l)))) (h 0 t (omega arith)))
 
 pub same_instance : (i : Problem) (ts : List TaskSeen) (rs : List RemainderSeen) → map task_of rs ≡ reverse ts →
     All (λ (t : TaskSeen). (t.version).instance ≡ i) ts → All (λ (r : RemainderSeen). (r.version).instance ≡ i) rs

@@ -1,5 +1,5 @@
 //! Several jobs at once.
-ghost use Rattle.std.specs.Prelude.{◌≡◌, ◌≤◌, ◌≢◌, ◌++◌, ◌∷◌, [], ℕ, map, reverse, All, OnOk, OnErr, vec_len};
+ghost use Rattle.std.specs.Prelude.{◌≡◌, ◌≤◌, ◌<◌, ◌++◌, ◌∷◌, [], ℕ, map, reverse, All, OnOk, OnErr};
 ghost use Rattle.ct_vectors.specs.declared.limits.TheConstants.{GRADE_LIMIT};
 ghost use Rattle.ct_instance.specs.Instance.{Problem};
 ghost use Rattle.ct_book.specs.Tasks.{task_of};

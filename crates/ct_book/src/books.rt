@@ -285,11 +285,13 @@ impl Book {
         ensures refused { OnErr result ((self.new ≡ self.old) × (batch.new ≡ batch.old)) }
         ensures counts { IfOk result (λ s. (rise : ℕ) × IsRiseOf s rise × CountsRise by rise self.old self.new) }
     {
-        let step = self.step(alloc, by, target)?;
-        if let Step::Reduce(_) = &step {
-            hand_out_beside(self, target, &mut batch.tasks);
+        match self.step(alloc, by, target)? {
+            Step::Reduce(first) => {
+                hand_out_beside(self, target, &mut batch.tasks);
+                Ok(Step::Reduce(first))
+            }
+            step => Ok(step),
         }
-        Ok(step)
     }
 
     /// Takes all remainders of a batch in, from the last to the first, as `commit` does. It takes no memory.

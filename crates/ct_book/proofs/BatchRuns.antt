@@ -1,5 +1,5 @@
 -- Jobs that are handed out, reduced and taken in together.
-use Rattle.std.proofs.Common.{◌≡◌, ℕ, ◌+◌, List, [], ◌∷◌, ◌++◌, map, reverse, All, get_or, sym, ap, subst, ◌∙◌, refl, arith, suc, append_assoc, append-nil}
+use Rattle.std.proofs.Common.{◌≡◌, ℕ, ◌+◌, List, [], ◌∷◌, ◌++◌, map, reverse, All, get_or, sym, ap, subst, ◌∙◌, refl, arith, zero, suc, append_assoc, append-nil}
 use Rattle.std.proofs.lemmas.List.{get_or-map, length-map, reverse-append}
 use Rattle.std.proofs.lemmas.List.Elements.{All-push}
 use Rattle.ct_instance.specs.Instance.{Problem}
@@ -98,9 +98,14 @@ all_reversed i (t ∷ ts) h =
     subst (All (λ (u : TaskSeen). (u.version).instance ≡ i)) (sym (reverse-append (t ∷ []) ts))
     (All-push (λ (u : TaskSeen). (u.version).instance ≡ i) (reverse ts) t (all_reversed i ts (λ k d l. h (suc k) d (omega (arith, l)))) (h 0 t (omega arith)))
 
-pub same_instance : (i : Problem) (ts : List TaskSeen) (rs : List RemainderSeen) → map task_of rs ≡ reverse ts →
-    All (λ (t : TaskSeen). (t.version).instance ≡ i) ts → All (λ (r : RemainderSeen). (r.version).instance ≡ i) rs
-same_instance i ts rs e h k d l =
-    let back : All (λ (t : TaskSeen). (t.version).instance ≡ i) (map task_of rs) = subst (All (λ (t : TaskSeen). (t.version).instance ≡ i)) (sym e) (all_reversed i ts h) in
+first_and_others : (i : Problem) (t : TaskSeen) (ts : List TaskSeen) → (t.version).instance ≡ i → All (λ (u : TaskSeen). (u.version).instance ≡ i) ts →
+    All (λ (u : TaskSeen). (u.version).instance ≡ i) (t ∷ ts)
+first_and_others i t ts e h zero d l = e
+first_and_others i t ts e h (suc k) d l = h k d (omega (arith, l))
+
+pub same_instance : (i : Problem) (t : TaskSeen) (ts : List TaskSeen) (rs : List RemainderSeen) → map task_of rs ≡ reverse (t ∷ ts) → (t.version).instance ≡ i →
+    All (λ (u : TaskSeen). (u.version).instance ≡ i) ts → All (λ (r : RemainderSeen). (r.version).instance ≡ i) rs
+same_instance i t ts rs e own h k d l =
+    let back : All (λ (t : TaskSeen). (t.version).instance ≡ i) (map task_of rs) = subst (All (λ (t : TaskSeen). (t.version).instance ≡ i)) (sym e) (all_reversed i (t ∷ ts) (first_and_others i t ts own h)) in
     let place : get_or (map task_of rs) k (task_of d) ≡ task_of (get_or rs k d) = get_or-map task_of rs k d (task_of d) l in
     subst (λ (t : TaskSeen). (t.version).instance ≡ i) place (back k (task_of d) (omega (arith, l, length-map rs task_of)))

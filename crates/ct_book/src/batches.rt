@@ -54,7 +54,7 @@ impl Batch {
         requires { self.old.remainders ≡ [] }
         ensures tasks { self.new.tasks ≡ [] }
         ensures reduced { OnOk result (map task_of self.new.remainders ≡ reverse (first ∷ self.old.tasks)) }
-        ensures instance { OnOk result ((i : Problem) → All (λ t. t.version.instance ≡ i) (first ∷ self.old.tasks) → All (λ r. r.version.instance ≡ i) self.new.remainders) }
+        ensures instance { OnOk result ((i : Problem) → first.version.instance ≡ i → All (λ t. t.version.instance ≡ i) self.old.tasks → All (λ r. r.version.instance ≡ i) self.new.remainders) }
         ensures refused { OnErr result (self.new.remainders ≡ []) }
     {
         match reduce_all(alloc, first, &mut self.tasks, &mut self.remainders) {

@@ -61,7 +61,8 @@ pub trait Bench {
         ensures answer { IfOk result (IsBenchBatchStep (place self.old) target batch.new.tasks) }
         ensures remainders { batch.new.remainders ≡ batch.old.remainders }
         ensures count { IfOk result (λ s. (rise : ℕ) × IsRiseOf s rise × (count self.new ≡ count self.old + rise)) }
-        ensures refused { OnErr result ((rise : ℕ) × (rise ≤ 1) × (count self.new ≡ count self.old + rise) × (batch.new ≡ batch.old)) };
+        ensures refused { OnErr result ((rise : ℕ) × (rise ≤ 1) × (count self.new ≡ count self.old + rise)) }
+        ensures none { OnErr result (batch.new.tasks ≡ []) };
 
     /// Takes all remainders of a batch in, which are of this instance. It may wait for others.
     fn commit_batch<R: Wait>(&mut self, rt: &R, batch: &mut Batch)

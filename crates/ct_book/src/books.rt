@@ -282,7 +282,8 @@ impl Book {
         requires none { batch.old.tasks ≡ [] }
         ensures answer { IfOk result (IsBatchStep self.old by target batch.new.tasks self.new) }
         ensures remainders { batch.new.remainders ≡ batch.old.remainders }
-        ensures refused { OnErr result ((self.new ≡ self.old) × (batch.new ≡ batch.old)) }
+        ensures refused { OnErr result (self.new ≡ self.old) }
+        ensures batch { OnErr result (batch.new ≡ batch.old) }
         ensures counts { IfOk result (λ s. (rise : ℕ) × IsRiseOf s rise × CountsRise by rise self.old self.new) }
     {
         match self.step(alloc, by, target)? {

@@ -1,5 +1,5 @@
 -- What a pass does to the book behind the lock, and what it has seen afterwards.
-use Rattle.std.specs.Prelude.{ℕ, ◌+◌, ◌≤◌, ◌<◌, ◌≡◌, List, [], ◌∷◌, ◌++◌, All}
+use Rattle.std.specs.Prelude.{ℕ, ◌≤◌, ◌<◌, ◌≡◌, List, [], ◌∷◌, ◌++◌, All}
 use Rattle.std.specs.Arc.{arc_value}
 use Rattle.count_lock.specs.Pairs.{first_number, first_count}
 use Rattle.count_lock.specs.Sight.{LockSight}
@@ -53,6 +53,13 @@ pub record IsHostBatchCommit (p : BenchPlace) (by : ℕ) (item : List ℕ) (rs :
   pub place : IsBookOf p book
   pub shown : shown_by book ≡ item
   pub committed : AreCommitted book by rs after rise
+
+-- a step's answer has a version
+abbrev pub HasVersion : Step → Type 0
+HasVersion (Reduce t) = ⊥
+HasVersion (Published v) = Unit {0}
+HasVersion (Reached h) = Unit {0}
+HasVersion (Full m) = Unit {0}
 
 -- the version of a step's answer, where it has one, isn't above this number
 abbrev pub HasSeenStep : ℕ → Step → Type 0

@@ -84,7 +84,8 @@ impl<'a> Bench for HostBench<'a> {
         ensures answer { IfOk result (IsBenchBatchStep self.old.host.now.place target batch.new.tasks) }
         ensures remainders { batch.new.remainders ≡ batch.old.remainders }
         ensures count { IfOk result (λ s. (rise : ℕ) × IsRiseOf s rise × (self.new.pass.now.steps ≡ self.old.pass.now.steps + rise)) }
-        ensures refused { OnErr result ((rise : ℕ) × (rise ≤ 1) × (self.new.pass.now.steps ≡ self.old.pass.now.steps + rise) × (batch.new ≡ batch.old)) }
+        ensures refused { OnErr result ((rise : ℕ) × (rise ≤ 1) × (self.new.pass.now.steps ≡ self.old.pass.now.steps + rise)) }
+        ensures none { OnErr result (batch.new.tasks ≡ []) }
         ensures one_lock { self.new.pass.now.shown ≡ self.old.pass.now.shown ++ last_shown self.new.pass.now.shown ∷ [] }
         ensures shown { IfOk result (IsHostBatchStep self.old.host.now.place self.old.pass.now.number (last_shown self.new.pass.now.shown) target batch.new.tasks) }
         ensures seen { IfOk result (HasSeenStep self.new.pass.now.seen) }

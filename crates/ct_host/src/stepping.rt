@@ -8,7 +8,7 @@ ghost use Rattle.ct_book.specs.Books.{IsRiseOf, rise_of};
 ghost use Rattle.ct_book.specs.Benches.{IsGiven};
 ghost use Rattle.ct_host.specs.Values.{bench_place};
 ghost use Rattle.ct_host.specs.Hosts.{IsOfHost, last_shown};
-ghost use Rattle.ct_host.specs.Steps.{IsHostStep, IsHostCommit, IsHostBatchStep, IsHostBatchCommit, HasSeenStep, OneLock};
+ghost use Rattle.ct_host.specs.Steps.{IsHostStep, IsHostCommit, IsHostBatchStep, IsHostBatchCommit, HasSeenStep, HasVersion, OneLock};
 
 use crate::host::Host;
 use crate::locked::LockedBook;
@@ -51,6 +51,7 @@ fn shown<R: Wait>(host: &Host, rt: &R, pass: &mut HostPass, step: Step) -> Resul
     ensures same { IfOk result (λ s. s ≡ step) }
     ensures rises { pass.old.seen ≤ pass.new.seen }
     ensures seen { IfOk result (HasSeenStep pass.new.seen) }
+    ensures refused { OnErr result (HasVersion step) }
 {
     match &step {
         Step::Reduce(_) => {}
@@ -137,7 +138,7 @@ pub fn step_batch<R: Wait>(
     ensures seen { IfOk result (HasSeenStep pass.new.seen) }
     ensures count { IfOk result (λ s. (rise : ℕ) × IsRiseOf s rise × (pass.new.steps ≡ pass.old.steps + rise)) }
     ensures refused { OnErr result ((rise : ℕ) × (rise ≤ 1) × (pass.new.steps ≡ pass.old.steps + rise)) }
-    ensures batch { OnErr result (batch.new ≡ batch.old) }
+    ensures none { OnErr result (batch.new.tasks ≡ []) }
 {
     let step = step_batch_in(&host.lock, rt, alloc, &mut pass.lock, target, batch)?;
     shown(host, rt, pass, step)

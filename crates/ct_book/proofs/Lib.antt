@@ -10,3 +10,4 @@ pub mod NextVersions
 pub mod ReadyBooks
 pub mod StepAnswers
 pub mod RunsOn
+pub mod BatchRuns

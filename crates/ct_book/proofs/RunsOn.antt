@@ -10,7 +10,7 @@ use Rattle.ct_levels.proofs.Levels.{Covers-le, covers_number, levels_rise}
 use Rattle.ct_completion.specs.declared.journals.Act.{Act}
 use Rattle.ct_completion.specs.declared.journals.Act.TheVariants.{Published as ActPublished, MarkedFull}
 use Rattle.ct_completion.specs.declared.journals.Entry.{Entry}
-use Rattle.ct_completion.specs.Machine.{CompletionState, CompletionEvent, CompletionStep, CompletionRun, starts, goes_on, stores, already, publishes, marks_full}
+use Rattle.ct_completion.specs.Machine.{CompletionState, CompletionEvent, CompletionStep, CompletionRun, starts, goes_on, stores, publishes, marks_full}
 use Rattle.ct_completion.specs.Journal.{acts_of, is_publishing}
 use Rattle.ct_completion.proofs.Replay.{acts_push, run_number}
 use Rattle.ct_version.specs.declared.pins.Helped.{Helped}
@@ -18,7 +18,7 @@ use Rattle.ct_version.specs.declared.pins.FullMark.{FullMark}
 use Rattle.ct_version.specs.Editions.{Edition, IsEdition}
 use Rattle.ct_version.specs.Desks.{Place, IsOfPlace, IsHelp, IsFullMark}
 use Rattle.ct_book.specs.declared.outcomes.Published.TheVariants.{Full}
-use Rattle.ct_book.specs.Tasks.{TaskSeen, RemainderSeen, task_of}
+use Rattle.ct_book.specs.Tasks.{TaskSeen}
 use Rattle.ct_book.specs.Books.{BookSeen, edition_of, place_of, IsCovered, Steps, Runs, IsReached, IsMarked, IsHandedOut, IsPublished, IsCompleted, IsStopped, entry_by}
 use Rattle.ct_book.proofs.StepAnswers.{published_mark}
 

@@ -1,8 +1,7 @@
 -- What a book is seen as, and what its calls do: each is a step of the completion machine, or a look.
-use Rattle.std.specs.Prelude.{ℕ, ◌+◌, ◌≤◌, suc, ◌≡◌, ◌⊎◌, Bool, true, false, nat_eq, cond, Some, List, [], ◌∷◌, ◌++◌, map, length}
+use Rattle.std.specs.Prelude.{ℕ, ◌+◌, ◌≤◌, suc, ◌≡◌, ◌⊎◌, true, false, cond, Some, List, [], ◌∷◌, ◌++◌, map, length}
 use Rattle.std.specs.List.{list_any}
 use Rattle.std.specs.Arc.{arc_value}
-use Rattle.ct_instance.specs.declared.jobs.Job.{Job}
 use Rattle.ct_instance.specs.Instance.{Problem}
 use Rattle.ct_instance.specs.Made.{indices}
 use Rattle.ct_instance.specs.Jobs.{is_same_job}

@@ -2,6 +2,7 @@ pub mod Logs
 pub mod Queues
 pub mod Tasks
 pub mod Books
+pub mod Batches
 pub mod Insides
 pub mod Handing
 pub mod Openings

@@ -1,9 +1,10 @@
 //! Where a worker takes its steps.
-ghost use Rattle.std.specs.Prelude.{◌≡◌, ◌+◌, ◌≤◌, ℕ, IfOk, OnErr};
+ghost use Rattle.std.specs.Prelude.{◌≡◌, ◌+◌, ◌≤◌, [], ℕ, All, IfOk, OnErr};
 ghost use Rattle.ct_vectors.specs.declared.limits.TheConstants.{GRADE_LIMIT};
-ghost use Rattle.ct_book.specs.Benches.{BenchPlace, IsBenchStep, IsBenchCommit};
+ghost use Rattle.ct_book.specs.Benches.{BenchPlace, IsBenchStep, IsBenchCommit, IsBenchBatchStep, IsBenchBatchCommit};
 ghost use Rattle.ct_book.specs.Books.{IsRiseOf, rise_of};
 
+use crate::batches::Batch;
 use crate::outcomes::{Committed, Step};
 use crate::remainders::Remainder;
 use std::alloc::{AllocError, Global};
@@ -42,4 +43,33 @@ pub trait Bench {
         ensures place { place self.new ≡ place self.old }
         ensures answer { IsBenchCommit (place self.old) r result }
         ensures count { count self.new ≡ count self.old + rise_of result };
+
+    /// The next step up to the target, and where it hands out a job, others beside it into the batch. It may wait for
+    /// others. For want of memory a step may have been made, but none that hands out a job.
+    fn step_batch<R: Wait>(
+        &mut self,
+        rt: &R,
+        alloc: Global,
+        target: u64,
+        batch: &mut Batch,
+    ) -> Result<Step, AllocError>
+        requires target { target ≤ GRADE_LIMIT }
+        requires none { batch.old.tasks ≡ [] }
+        ensures home { home self.new ≡ home self.old }
+        ensures loan { loan self.new ≡ loan self.old }
+        ensures place { place self.new ≡ place self.old }
+        ensures answer { IfOk result (IsBenchBatchStep (place self.old) target batch.new.tasks) }
+        ensures remainders { batch.new.remainders ≡ batch.old.remainders }
+        ensures count { IfOk result (λ s. (rise : ℕ) × IsRiseOf s rise × (count self.new ≡ count self.old + rise)) }
+        ensures refused { OnErr result ((rise : ℕ) × (rise ≤ 1) × (count self.new ≡ count self.old + rise)) }
+        ensures none { OnErr result (batch.new.tasks ≡ []) };
+
+    /// Takes all remainders of a batch in, which are of this instance. It may wait for others.
+    fn commit_batch<R: Wait>(&mut self, rt: &R, batch: &mut Batch)
+        requires { All (λ r. r.version.instance ≡ (place self.old).instance) batch.old.remainders }
+        ensures home { home self.new ≡ home self.old }
+        ensures loan { loan self.new ≡ loan self.old }
+        ensures place { place self.new ≡ place self.old }
+        ensures committed { (rise : ℕ) × IsBenchBatchCommit (place self.old) batch.old.remainders rise × (count self.new ≡ count self.old + rise) }
+        ensures batch { batch.new ≡ record batch.old { remainders = [] } };
 }

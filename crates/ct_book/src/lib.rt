@@ -1,6 +1,7 @@
 //! The completion of a test set, grade by grade, with the journal of what was done.
 #![tactic(auto)]
 
+mod batches;
 mod benches;
 mod books;
 mod completing;
@@ -15,6 +16,7 @@ mod reducing;
 mod remainders;
 mod tasks;
 
+pub use batches::Batch;
 pub use benches::Bench;
 pub use books::Book;
 pub use ct_completion::{Act, Entry};

@@ -1,5 +1,5 @@
 -- What a call of the book behind the lock leaves of its counts and its place.
-use Rattle.std.proofs.Common.{◌≡◌, ℕ, ◌+◌, ◌≤◌, ◌<◌, Result, Ok, Err, Some, None, List, [], ◌∷◌, ◌++◌, slice_index, suc, sym, ap, subst, ◌∙◌, refl, arith, inl, inr}
+use Rattle.std.proofs.Common.{◌≡◌, ℕ, ◌+◌, ◌<◌, Result, Ok, Err, Some, None, List, [], ◌∷◌, ◌++◌, slice_index, suc, sym, ap, subst, ◌∙◌, refl, arith, inl, inr}
 use Rattle.std.specs.Prelude.{IfOk, OnErr}
 use Rattle.std.specs.declared.alloc.AllocError.{AllocError}
 use Rattle.std.specs.Arc.{arc_value}
@@ -22,14 +22,14 @@ use Rattle.ct_host.specs.Steps.{IsHostStep, IsHostCommit, OneLock}
 use Rattle.ct_host.proofs.Counts.{count_at, counts_grow}
 use Rattle.ct_host.proofs.Lists.{last_snoc}
 
-step_place : (b c : BookSeen) (by g : ℕ) (s : Step) → IsStep b by g c s → bench_place c ≡ bench_place b
+pub step_place : (b c : BookSeen) (by g : ℕ) (s : Step) → IsStep b by g c s → bench_place c ≡ bench_place b
 step_place b c by g (Reduce t) h = ap bench_place (h.steps).kept
 step_place b c by g (Published v) h = ap bench_place (h.2.1).kept
 step_place b c by g (Reached r) h = ap bench_place h.1
 step_place b c by g (Full m) (inl h) = ap bench_place h.1
 step_place b c by g (Full m) (inr h) = ap bench_place (h.2.2).kept
 
-step_given : (b c : BookSeen) (by g : ℕ) (s : Step) → IsStep b by g c s → IsOfPlace (place_of c) (edition_of c) → IsGiven (bench_place b) g s
+pub step_given : (b c : BookSeen) (by g : ℕ) (s : Step) → IsStep b by g c s → IsOfPlace (place_of c) (edition_of c) → IsGiven (bench_place b) g s
 step_given b c by g (Reduce t) h o = ap (λ (v : Edition). v.instance) h.version
 step_given b c by g (Published v) h o =
     let state = ((h.2.1).step).3 in
@@ -41,18 +41,18 @@ step_given b c by g (Reached r) h o = (h.0).help
 step_given b c by g (Full m) (inl h) o = (h.0).mark
 step_given b c by g (Full m) (inr h) o = h.3
 
-is_own_place : (b : BookSeen) → IsBookOf (bench_place b) b
+pub is_own_place : (b : BookSeen) → IsBookOf (bench_place b) b
 is_own_place b = record { instance = refl; limit = refl; passes = refl }
 
-rise_here : (b c : BookSeen) (by rise : ℕ) → by < b.passes → bench_place c ≡ bench_place b → CountsRise by rise b c → slice_index (counts_of c) by ≡ slice_index (counts_of b) by + rise
+pub rise_here : (b c : BookSeen) (by rise : ℕ) → by < b.passes → bench_place c ≡ bench_place b → CountsRise by rise b c → slice_index (counts_of c) by ≡ slice_index (counts_of b) by + rise
 rise_here b c by rise within place rises =
     let passes : c.passes ≡ b.passes = ap (λ (p : BenchPlace). p.passes) place in
     count_at c by (omega (arith, within, passes)) ∙ (rises.0 ∙ ap (λ n. n + rise) (sym (count_at b by within)))
 
-grows_here : (b c : BookSeen) (by rise : ℕ) → by < b.passes → bench_place c ≡ bench_place b → CountsRise by rise b c → GrowsAt by (counts_of b) (counts_of c)
+pub grows_here : (b c : BookSeen) (by rise : ℕ) → by < b.passes → bench_place c ≡ bench_place b → CountsRise by rise b c → GrowsAt by (counts_of b) (counts_of c)
 grows_here b c by rise within place rises = counts_grow b c by rise within (ap (λ (p : BenchPlace). p.passes) place) rises
 
-no_rise : (b c : BookSeen) (by : ℕ) → c ≡ b → CountsRise by 0 b c
+pub no_rise : (b c : BookSeen) (by : ℕ) → c ≡ b → CountsRise by 0 b c
 no_rise b c by same =
     (ap (λ (x : BookSeen). entries_of by x.journal) same ∙ (let e : entries_of by b.journal ≡ entries_of by b.journal + 0 = omega arith in e), λ pass ne. ap (λ (x : BookSeen). entries_of pass x.journal) same)
 
@@ -78,7 +78,7 @@ stepped b c by g (Ok s) own step same counts o =
 stepped b c by g (Err e) own step same counts o =
     record { place = ap bench_place same; answer = tt; grows = grows_here b c by 0 own (ap bench_place same) (no_rise b c by same); count = tt; refused = ap (λ x. slice_index (counts_of x) by) same }
 
-commit_place : (b c : BookSeen) (by : ℕ) (r : RemainderSeen) (done : Committed) → IsCommitted b by r c done → bench_place c ≡ bench_place b
+pub commit_place : (b c : BookSeen) (by : ℕ) (r : RemainderSeen) (done : Committed) → IsCommitted b by r c done → bench_place c ≡ bench_place b
 commit_place b c by r (Stored place) h = ap bench_place (h.2).kept
 commit_place b c by r (Already number) h = ap bench_place h.1
 

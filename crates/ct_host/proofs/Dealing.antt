@@ -1,5 +1,5 @@
 -- The passes of the opening: one for each pass of the lock.
-use Rattle.std.proofs.Common.{◌≡◌, ℕ, ◌+◌, ◌≤◌, ◌<◌, Some, List, [], ◌∷◌, ◌++◌, length, map, get_or, zero, suc, sym, ap, subst, ◌∙◌, refl, arith, add-one, length-append}
+use Rattle.std.proofs.Common.{◌≡◌, ℕ, ◌+◌, ◌≤◌, ◌<◌, Some, List, [], ◌∷◌, ◌++◌, length, map, get_or, zero, suc, sym, ap, ◌∙◌, refl, arith, add-one, length-append}
 use Rattle.std.proofs.lemmas.List.{length_push, map-append, length-map}
 use Rattle.std.proofs.Math.Seq.{get_or-append_seam}
 use Rattle.turn_cell.specs.Sight.{CellPlace, CellSight, IsOfCell}
@@ -7,7 +7,6 @@ use Rattle.count_lock.specs.Sight.{LockPlace, LockSight, fresh_passes, fresh_pas
 use Rattle.ct_instance.specs.Made.{indices}
 use Rattle.ct_instance.proofs.Entries.{length-indices}
 use Rattle.ct_completion.specs.Journal.{entries_of}
-use Rattle.ct_completion.specs.declared.journals.Entry.{Entry}
 use Rattle.ct_book.specs.Books.{BookSeen, counts_of}
 use Rattle.ct_host.specs.Values.{PlacedVersion}
 use Rattle.ct_host.specs.Hosts.{PassSeen, key_in, pass_in, fresh_pass}

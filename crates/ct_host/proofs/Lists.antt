@@ -1,5 +1,5 @@
 -- Lists that grow: the words that a pass found, and what was shown to it.
-use Rattle.std.proofs.Common.{◌≡◌, ℕ, List, [], ◌∷◌, ◌++◌, length, drop, suc, sym, ap, ◌∙◌, refl, append_assoc, append-nil}
+use Rattle.std.proofs.Common.{◌≡◌, ℕ, List, [], ◌∷◌, ◌++◌, length, drop, sym, ap, ◌∙◌, refl, append_assoc, append-nil}
 use Rattle.ct_version.specs.Desks.{latest, Extends}
 use Rattle.ct_host.specs.Hosts.{last_shown}
 

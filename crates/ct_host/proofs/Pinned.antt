@@ -1,5 +1,5 @@
 -- A pass after its one take of the cell.
-use Rattle.std.proofs.Common.{◌≡◌, ℕ, ◌+◌, ◌*◌, ◌/◌, None, Some, List, [], ◌∷◌, ◌++◌, sym, ap, ◌∙◌, arith}
+use Rattle.std.proofs.Common.{◌≡◌, ℕ, ◌*◌, ◌/◌, None, Some, sym, ap, ◌∙◌, arith}
 use Rattle.turn_cell.specs.Sight.{CellSight, after_take}
 use Rattle.count_lock.specs.Sight.{LockSight}
 use Rattle.ct_version.specs.Desks.{latest}

@@ -8,13 +8,13 @@ ghost use Rattle.ct_host.specs.Steps.{HasSeenHelp, HasSeenStop, Helps};
 
 use crate::host::Host;
 use crate::passes::HostPass;
-use crate::stepping::{commit, step};
-use ct_book::{Step, Task};
+use crate::stepping::{commit_batch, step_batch};
+use ct_book::{Batch, Step};
 use ct_version::{Helped, Stop};
-use std::alloc::{AllocError, Global};
+use std::alloc::Global;
 use std::sync::Wait;
 
-// Takes steps, reduces without the lock and commits, until a step reaches the target or the limit.
+// Takes steps, reduces what they hand out without the lock and commits it, until a step reaches the target or the limit.
 pub fn help<R: Wait>(
     host: &Host,
     rt: &R,
@@ -30,39 +30,20 @@ pub fn help<R: Wait>(
     ensures seen { IfOk result (HasSeenHelp pass.new.seen) }
     ensures seen_full { IfErr result (HasSeenStop pass.new.seen) }
 {
+    let mut batch = Batch::new(alloc);
     for _ in rt.forever() {
-        match step(host, rt, alloc, pass, target) {
+        match step_batch(host, rt, alloc, pass, target, &mut batch) {
             Err(_) => return Err(Stop::Memory),
             Ok(Step::Reached(helped)) => return Ok(helped),
             Ok(Step::Full(mark)) => return Err(Stop::Full(mark)),
             Ok(Step::Published(_version)) => {}
-            Ok(Step::Reduce(task)) => {
-                if reduce_and_commit(host, rt, alloc, pass, task).is_err() {
+            Ok(Step::Reduce(first)) => {
+                if batch.reduce(alloc, first).is_err() {
                     return Err(Stop::Memory);
                 }
+                commit_batch(host, rt, pass, &mut batch);
             }
         }
     }
     unreachable!()
-}
-
-// Reduces a task with no lock, and commits what it leaves.
-fn reduce_and_commit<R: Wait>(
-    host: &Host,
-    rt: &R,
-    alloc: Global,
-    pass: &mut HostPass,
-    task: Task,
-) -> Result<(), AllocError>
-    requires own { IsOfHost host.now pass.old }
-    requires instance { task.version.instance ≡ host.now.place.instance }
-    ensures { Helps pass.old pass.new }
-{
-    match task.reduce(alloc) {
-        Err((_, refused)) => Err(refused),
-        Ok(remainder) => {
-            commit(host, rt, pass, remainder);
-            Ok(())
-        }
-    }
 }

@@ -1,20 +1,21 @@
 //! Steps of the book behind the lock.
-ghost use Rattle.std.specs.Prelude.{◌≡◌, ◌+◌, ◌≤◌, ◌++◌, ◌∷◌, [], ℕ, None, length, IfOk, OnErr};
+ghost use Rattle.std.specs.Prelude.{◌≡◌, ◌+◌, ◌≤◌, ◌++◌, ◌∷◌, [], ℕ, None, length, All, IfOk, OnErr};
 ghost use Rattle.ct_vectors.specs.declared.limits.TheConstants.{GRADE_LIMIT};
 ghost use Rattle.count_lock.specs.Pairs.{first_number, first_count};
 ghost use Rattle.count_lock.specs.Sight.{IsOfLock};
 ghost use Rattle.ct_version.specs.Desks.{Extends};
 ghost use Rattle.ct_book.specs.Books.{IsRiseOf, rise_of};
+ghost use Rattle.ct_book.specs.Benches.{IsGiven};
 ghost use Rattle.ct_host.specs.Values.{bench_place};
 ghost use Rattle.ct_host.specs.Hosts.{IsOfHost, last_shown};
-ghost use Rattle.ct_host.specs.Steps.{IsHostStep, IsHostCommit, HasSeenStep, OneLock};
+ghost use Rattle.ct_host.specs.Steps.{IsHostStep, IsHostCommit, IsHostBatchStep, IsHostBatchCommit, HasSeenStep, HasVersion, OneLock};
 
 use crate::host::Host;
 use crate::locked::LockedBook;
 use crate::passes::HostPass;
 use crate::pinning::put;
 use count_lock::{CountLock, LockPass};
-use ct_book::{Committed, Remainder, Step};
+use ct_book::{Batch, Committed, Remainder, Step};
 use std::alloc::{AllocError, Global};
 use std::sync::Wait;
 
@@ -37,21 +38,28 @@ pub fn step<R: Wait>(
     ensures count { IfOk result (λ s. (rise : ℕ) × IsRiseOf s rise × (pass.new.steps ≡ pass.old.steps + rise)) }
     ensures refused { OnErr result ((rise : ℕ) × (rise ≤ 1) × (pass.new.steps ≡ pass.old.steps + rise)) }
 {
-    match step_in(&host.lock, rt, alloc, &mut pass.lock, target)? {
-        Step::Reduce(task) => Ok(Step::Reduce(task)),
-        Step::Published(version) => {
-            put(host, rt, pass, &version)?;
-            Ok(Step::Published(version))
-        }
-        Step::Reached(helped) => {
-            put(host, rt, pass, &helped.version)?;
-            Ok(Step::Reached(helped))
-        }
-        Step::Full(mark) => {
-            put(host, rt, pass, &mark.version)?;
-            Ok(Step::Full(mark))
-        }
+    let step = step_in(&host.lock, rt, alloc, &mut pass.lock, target)?;
+    shown(host, rt, pass, step)
+}
+
+// Puts the version of a step's answer into the cell, where it has one.
+fn shown<R: Wait>(host: &Host, rt: &R, pass: &mut HostPass, step: Step) -> Result<Step, AllocError>
+    requires own { IsOfHost host.now pass.old }
+    requires given { (g : ℕ) × IsGiven host.now.place g step }
+    ensures kept { pass.new ≡ record pass.old { seen = pass.new.seen; words = pass.new.words } }
+    ensures words { Extends pass.old.words pass.new.words }
+    ensures same { IfOk result (λ s. s ≡ step) }
+    ensures rises { pass.old.seen ≤ pass.new.seen }
+    ensures seen { IfOk result (HasSeenStep pass.new.seen) }
+    ensures refused { OnErr result (HasVersion step) }
+{
+    match &step {
+        Step::Reduce(_) => {}
+        Step::Published(version) => put(host, rt, pass, version)?,
+        Step::Reached(helped) => put(host, rt, pass, &helped.version)?,
+        Step::Full(mark) => put(host, rt, pass, &mark.version)?,
     }
+    Ok(step)
 }
 
 // One step of the book, in one hold of its lock.
@@ -107,4 +115,89 @@ fn commit_in<R: Wait>(
     let done = book.commit(number, r);
     lock.unlock(pass, book);
     done
+}
+
+// One step of the book, with jobs beside one that it hands out, and its version into the cell.
+pub fn step_batch<R: Wait>(
+    host: &Host,
+    rt: &R,
+    alloc: Global,
+    pass: &mut HostPass,
+    target: u64,
+    batch: &mut Batch,
+) -> Result<Step, AllocError>
+    requires own { IsOfHost host.now pass.old }
+    requires target { target ≤ GRADE_LIMIT }
+    requires none { batch.old.tasks ≡ [] }
+    ensures kept { pass.new ≡ record pass.old { steps = pass.new.steps; seen = pass.new.seen; words = pass.new.words; shown = pass.new.shown } }
+    ensures one_lock { pass.new.shown ≡ pass.old.shown ++ last_shown pass.new.shown ∷ [] }
+    ensures words { Extends pass.old.words pass.new.words }
+    ensures answer { IfOk result (IsHostBatchStep host.now.place pass.old.number (last_shown pass.new.shown) target batch.new.tasks) }
+    ensures remainders { batch.new.remainders ≡ batch.old.remainders }
+    ensures rises { pass.old.seen ≤ pass.new.seen }
+    ensures seen { IfOk result (HasSeenStep pass.new.seen) }
+    ensures count { IfOk result (λ s. (rise : ℕ) × IsRiseOf s rise × (pass.new.steps ≡ pass.old.steps + rise)) }
+    ensures refused { OnErr result ((rise : ℕ) × (rise ≤ 1) × (pass.new.steps ≡ pass.old.steps + rise)) }
+    ensures none { OnErr result (batch.new.tasks ≡ []) }
+{
+    let step = step_batch_in(&host.lock, rt, alloc, &mut pass.lock, target, batch)?;
+    shown(host, rt, pass, step)
+}
+
+// The same step of the book, in one hold of its lock.
+fn step_batch_in<R: Wait>(
+    lock: &CountLock<LockedBook>,
+    rt: &R,
+    alloc: Global,
+    pass: &mut LockPass<LockedBook>,
+    target: u64,
+    batch: &mut Batch,
+) -> Result<Step, AllocError>
+    requires own { IsOfLock lock.now pass.old }
+    requires idle { (pass.old.held ≡ None) × (length pass.old.pairs ≡ 1) }
+    requires target { target ≤ GRADE_LIMIT }
+    requires none { batch.old.tasks ≡ [] }
+    ensures one_lock { OneLock pass.old pass.new }
+    ensures answer { IfOk result (IsHostBatchStep (bench_place lock.now.first) (first_number pass.old.pairs) (last_shown pass.new.shown) target batch.new.tasks) }
+    ensures remainders { batch.new.remainders ≡ batch.old.remainders }
+    ensures count { IfOk result (λ s. (rise : ℕ) × IsRiseOf s rise × (first_count pass.new.pairs ≡ first_count pass.old.pairs + rise)) }
+    ensures refused { OnErr result (first_count pass.new.pairs ≡ first_count pass.old.pairs) }
+    ensures batch { OnErr result (batch.new ≡ batch.old) }
+{
+    let number = pass.number();
+    let mut book = lock.lock(rt, pass);
+    let answer = book.step_batch(alloc, number, target, batch);
+    lock.unlock(pass, book);
+    answer
+}
+
+// Takes all remainders of a batch in, in one hold of the book's lock.
+pub fn commit_batch<R: Wait>(host: &Host, rt: &R, pass: &mut HostPass, batch: &mut Batch)
+    requires own { IsOfHost host.now pass.old }
+    requires instance { All (λ r. r.version.instance ≡ host.now.place.instance) batch.old.remainders }
+    ensures kept { pass.new ≡ record pass.old { steps = pass.new.steps; shown = pass.new.shown } }
+    ensures one_lock { pass.new.shown ≡ pass.old.shown ++ last_shown pass.new.shown ∷ [] }
+    ensures committed { (rise : ℕ) × IsHostBatchCommit host.now.place pass.old.number (last_shown pass.new.shown) batch.old.remainders rise × (pass.new.steps ≡ pass.old.steps + rise) }
+    ensures batch { batch.new ≡ record batch.old { remainders = [] } }
+{
+    commit_batch_in(&host.lock, rt, &mut pass.lock, batch)
+}
+
+fn commit_batch_in<R: Wait>(
+    lock: &CountLock<LockedBook>,
+    rt: &R,
+    pass: &mut LockPass<LockedBook>,
+    batch: &mut Batch,
+)
+    requires own { IsOfLock lock.now pass.old }
+    requires idle { (pass.old.held ≡ None) × (length pass.old.pairs ≡ 1) }
+    requires instance { All (λ r. r.version.instance ≡ lock.now.first.instance) batch.old.remainders }
+    ensures one_lock { OneLock pass.old pass.new }
+    ensures committed { (rise : ℕ) × IsHostBatchCommit (bench_place lock.now.first) (first_number pass.old.pairs) (last_shown pass.new.shown) batch.old.remainders rise × (first_count pass.new.pairs ≡ first_count pass.old.pairs + rise) }
+    ensures batch { batch.new ≡ record batch.old { remainders = [] } }
+{
+    let number = pass.number();
+    let mut book = lock.lock(rt, pass);
+    book.commit_batch(number, batch);
+    lock.unlock(pass, book);
 }

@@ -1,12 +1,12 @@
 //! The loop of a worker.
-ghost use Rattle.std.specs.Prelude.{◌≡◌, ◌+◌, ◌≤◌, ℕ, IfOk, IfErr, OnOk, OnErr};
+ghost use Rattle.std.specs.Prelude.{◌≡◌, ◌≤◌, IfOk, IfErr};
 ghost use Rattle.ct_vectors.specs.declared.limits.TheConstants.{GRADE_LIMIT};
 ghost use Rattle.ct_version.specs.Desks.{IsHelp, IsStop};
 ghost use Rattle.ct_book.specs.Benches.{desk_place};
 
-use ct_book::{Bench, Step, Task};
+use ct_book::{Batch, Bench, Step};
 use ct_version::{Gate, Helped, Stop};
-use std::alloc::{AllocError, Global};
+use std::alloc::Global;
 use std::sync::Wait;
 
 /// Takes steps of the bench until a version covers the target, or the limit on the number of moves is found to stand
@@ -30,43 +30,23 @@ pub fn work<R: Wait, B: Bench, G: Gate>(
     ensures ok { IfOk result (IsHelp (desk_place (B.place bench.old)) target) }
     ensures stop { IfErr result (IsStop (desk_place (B.place bench.old)) target) }
 {
+    let mut batch = Batch::new(alloc);
     let mut turn: u64 = 0;
     for _ in rt.forever() {
         gate.before(rt, who, turn);
-        match bench.step(rt, alloc, target) {
+        match bench.step_batch(rt, alloc, target, &mut batch) {
             Err(_) => return Err(Stop::Memory),
             Ok(Step::Reached(helped)) => return Ok(helped),
             Ok(Step::Full(mark)) => return Err(Stop::Full(mark)),
             Ok(Step::Published(_version)) => {}
-            Ok(Step::Reduce(task)) => {
-                if reduce_and_commit(rt, alloc, bench, task).is_err() {
+            Ok(Step::Reduce(first)) => {
+                if batch.reduce(alloc, first).is_err() {
                     return Err(Stop::Memory);
                 }
+                bench.commit_batch(rt, &mut batch);
             }
         }
         turn = turn.saturating_add(1);
     }
     unreachable!()
-}
-
-// Reduces a task, with no lock, and commits what it leaves.
-fn reduce_and_commit<R: Wait, B: Bench>(
-    rt: &R,
-    alloc: Global,
-    bench: &mut B,
-    task: Task,
-) -> Result<(), AllocError>
-    requires { task.version.instance ≡ (B.place bench.old).instance }
-    ensures home { B.home bench.new ≡ B.home bench.old }
-    ensures loan { B.loan bench.new ≡ B.loan bench.old }
-    ensures place { B.place bench.new ≡ B.place bench.old }
-    ensures count { B.count bench.old ≤ B.count bench.new }
-{
-    match task.reduce(alloc) {
-        Err((_, refused)) => Err(refused),
-        Ok(remainder) => {
-            bench.commit(rt, remainder);
-            Ok(())
-        }
-    }
 }

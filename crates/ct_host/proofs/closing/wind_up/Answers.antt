@@ -6,7 +6,7 @@ use Rattle.ct_book.specs.Books.{BookSeen, counts_of}
 use Rattle.ct_book.specs.Benches.{BenchPlace}
 use Rattle.ct_host.specs.Values.{bench_place}
 use Rattle.ct_host.specs.Hosts.{HostKey, HostSeen, PassSeen}
-use Rattle.ct_host.specs.Closing.{AreNumbered, pairs_of}
+use Rattle.ct_host.specs.Closing.{pairs_of}
 use Rattle.ct_host.proofs.Joining.{are_of_lock, has_each, counted}
 use Rattle.ct_host.proofs.closing.wind_up.Goals as goal
 

@@ -1,5 +1,4 @@
 use Rattle.std.proofs.Common.{◌≡◌, ℕ, ◌*◌, ◌%◌, sym, ap, subst, ◌∙◌}
-use Rattle.turn_cell.specs.Sight.{after_take}
 use Rattle.ct_version.specs.Desks.{Place, IsPin, latest}
 use Rattle.ct_book.specs.Benches.{desk_place}
 use Rattle.ct_host.specs.Values.{PlacedVersion}

@@ -1,10 +1,9 @@
-use Rattle.std.proofs.Common.{◌≡◌, ℕ, ◌<◌, List, IfOk, sym, ap, subst, ◌∙◌, arith, slice_index}
+use Rattle.std.proofs.Common.{◌≡◌, ℕ, List, IfOk, sym, subst, arith, slice_index}
 use Rattle.count_lock.specs.Pairs.{first_number}
-use Rattle.ct_book.specs.Books.{BookSeen, shown_by, counts_of}
+use Rattle.ct_book.specs.Books.{shown_by, counts_of}
 use Rattle.ct_book.specs.Benches.{BenchPlace}
-use Rattle.ct_host.specs.Values.{bench_place}
 use Rattle.ct_host.specs.Hosts.{last_shown}
-use Rattle.ct_host.specs.Steps.{IsHostStep, IsHostCommit}
+use Rattle.ct_host.specs.Steps.{IsHostStep}
 use Rattle.ct_host.proofs.Counts.{length_counts}
 use Rattle.ct_host.proofs.Called.{after_lock, had_lock, item_shown, one_lock}
 use Rattle.ct_host.proofs.stepping.step_in.Goals as goal

@@ -1,4 +1,4 @@
-use Rattle.std.proofs.Common.{◌≡◌, ◌≤◌}
+use Rattle.std.proofs.Common.{◌≡◌, ◌≤◌, []}
 use Rattle.ct_workers.proofs.working.work.Given as goal
 
 abbrev pub invariant-loop : goal.invariant-loop
@@ -7,4 +7,6 @@ invariant-loop g l = record {
   loan : g.B.Bench.loan l.bench ≡ g.B.Bench.loan l.initial.bench;
   place : g.B.Bench.place l.bench ≡ g.B.Bench.place l.initial.bench;
   count : g.B.Bench.count l.initial.bench ≤ g.B.Bench.count l.bench;
+  tasks : l.batch.tasks ≡ [];
+  remainders : l.batch.remainders ≡ [];
 }

@@ -1,4 +1,4 @@
-use Rattle.std.proofs.Common.{◌≡◌, [], length, ap, ◌∙◌, arith}
+use Rattle.std.proofs.Common.{◌≡◌, length, ap, ◌∙◌, arith}
 use Rattle.ct_book.specs.Books.{BookSeen, counts_of}
 use Rattle.ct_host.proofs.Counts.{length_counts, counts_fit}
 use Rattle.ct_host.proofs.Dealing.{length_fresh}

@@ -3,6 +3,7 @@ use Rattle.std.proofs.Common.{◌≡◌, ℕ, ◌+◌, List, [], ◌∷◌, ◌+
 use Rattle.std.proofs.lemmas.List.{get_or-map, length-map, reverse-append}
 use Rattle.std.proofs.lemmas.List.Elements.{All-push}
 use Rattle.ct_instance.specs.Instance.{Problem}
+use Rattle.ct_version.specs.Editions.{Edition}
 use Rattle.ct_book.specs.declared.outcomes.Committed.{Committed}
 use Rattle.ct_book.specs.declared.outcomes.Committed.TheVariants.{Stored, Already}
 use Rattle.ct_book.specs.Tasks.{TaskSeen, RemainderSeen, task_of}
@@ -19,6 +20,12 @@ pub handed_journal : (b c : BookSeen) (g : ℕ) (ts : List TaskSeen) → AreHand
 handed_journal b c g [] h = ap (λ (x : BookSeen). x.journal) h
 handed_journal b c g (t ∷ ts) h =
     handed_journal h.0 c g ts h.2 ∙ ap (λ (x : BookSeen). x.journal) ((h.1).steps).kept ∙ append-nil b.journal
+
+pub handed_instance : (i : Problem) (b c : BookSeen) (g : ℕ) (ts : List TaskSeen) → b.instance ≡ i → AreHandedOut b g ts c → All (λ (t : TaskSeen). (t.version).instance ≡ i) ts
+handed_instance i b c g [] e h k d l = absurd (omega arith)
+handed_instance i b c g (t ∷ ts) e h zero d l = ap (λ (v : Edition). v.instance) (h.1).version ∙ e
+handed_instance i b c g (t ∷ ts) e h (suc k) d l =
+    handed_instance i h.0 c g ts (ap (λ (x : BookSeen). x.instance) ((h.1).steps).kept ∙ e) h.2 k d (omega (arith, l))
 
 -- what a commit keeps
 pub committed_kept : (b : BookSeen) (by : ℕ) (r : RemainderSeen) (c : BookSeen) (done : Committed) → IsCommitted b by r c done →

@@ -108,7 +108,8 @@ fn push_reduced(
 pub fn hand_out_beside(book: &mut Book, target: u64, tasks: &mut Vec<Task>)
     requires target { target ≤ GRADE_LIMIT }
     requires none { tasks.old.items ≡ [] }
-    ensures { AreHandedOut book.old target tasks.new.items book.new }
+    ensures handed { AreHandedOut book.old target tasks.new.items book.new }
+    ensures instance { All (λ t. t.version.instance ≡ book.old.instance) tasks.new.items }
 {
     let most = tasks.capacity().min(book.waiting() / PART);
     while tasks.len() < most {

@@ -281,6 +281,7 @@ impl Book {
         requires target { target ≤ GRADE_LIMIT }
         requires none { batch.old.tasks ≡ [] }
         ensures answer { IfOk result (IsBatchStep self.old by target batch.new.tasks self.new) }
+        ensures instance { IfOk result (λ _. All (λ t. t.version.instance ≡ self.old.instance) batch.new.tasks) }
         ensures remainders { batch.new.remainders ≡ batch.old.remainders }
         ensures refused { OnErr result (self.new ≡ self.old) }
         ensures batch { OnErr result (batch.new ≡ batch.old) }

@@ -20,12 +20,6 @@ handed_place : (b c : BookSeen) (g : ℕ) (ts : List TaskSeen) → AreHandedOut 
 handed_place b c g [] h = ap bench_place h
 handed_place b c g (t ∷ ts) h = handed_place h.0 c g ts h.2 ∙ ap bench_place ((h.1).steps).kept
 
-handed_instance : (i : Problem) (b c : BookSeen) (g : ℕ) (ts : List TaskSeen) → b.instance ≡ i → AreHandedOut b g ts c → All (λ (t : TaskSeen). (t.version).instance ≡ i) ts
-handed_instance i b c g [] e h k d l = absurd (omega arith)
-handed_instance i b c g (t ∷ ts) e h zero d l = ap (λ (v : Edition). v.instance) (h.1).version ∙ e
-handed_instance i b c g (t ∷ ts) e h (suc k) d l =
-    handed_instance i h.0 c g ts (ap (λ (x : BookSeen). x.instance) ((h.1).steps).kept ∙ e) h.2 k d (omega (arith, l))
-
 batch_place : (b c : BookSeen) (by g : ℕ) (ts : List TaskSeen) (s : Step) → IsBatchStep b by g ts c s → bench_place c ≡ bench_place b
 batch_place b c by g ts (Reduce t) h = handed_place b c g (t ∷ ts) h
 batch_place b c by g ts (Published v) h = step_place b c by g (Published v) h.1
@@ -37,15 +31,6 @@ batch_given b c by g ts (Reduce t) h o = ap (λ (v : Edition). v.instance) (h.1)
 batch_given b c by g ts (Published v) h o = step_given b c by g (Published v) h.1 o
 batch_given b c by g ts (Reached r) h o = step_given b c by g (Reached r) h.1 o
 batch_given b c by g ts (Full m) h o = step_given b c by g (Full m) h.1 o
-
-none_beside : (i : Problem) (ts : List TaskSeen) → ts ≡ [] → All (λ (t : TaskSeen). (t.version).instance ≡ i) ts
-none_beside i ts e = subst (All (λ (t : TaskSeen). (t.version).instance ≡ i)) (sym e) (λ k d l. absurd (omega (arith, l)))
-
-batch_beside : (b c : BookSeen) (by g : ℕ) (ts : List TaskSeen) (s : Step) → IsBatchStep b by g ts c s → All (λ (t : TaskSeen). (t.version).instance ≡ b.instance) ts
-batch_beside b c by g ts (Reduce t) h = handed_instance b.instance h.0 c g ts (ap (λ (x : BookSeen). x.instance) ((h.1).steps).kept) h.2
-batch_beside b c by g ts (Published v) h = none_beside b.instance ts h.0
-batch_beside b c by g ts (Reached r) h = none_beside b.instance ts h.0
-batch_beside b c by g ts (Full m) h = none_beside b.instance ts h.0
 
 none_with_version : (b c : BookSeen) (by g : ℕ) (ts : List TaskSeen) (s : Step) → IsBatchStep b by g ts c s → HasVersion s → ts ≡ []
 none_with_version b c by g ts (Reduce t) h v = absurd v
@@ -67,18 +52,18 @@ pub record BatchStepped (b c : BookSeen) (by g : ℕ) (ts : List TaskSeen) (r : 
   pub count : IfOk r (λ s. (rise : ℕ) × IsRiseOf s rise × (slice_index (counts_of c) by ≡ slice_index (counts_of b) by + rise))
   pub refused : OnErr r (slice_index (counts_of c) by ≡ slice_index (counts_of b) by)
 
-pub batch_stepped : (b c : BookSeen) (by g : ℕ) (ts : List TaskSeen) (r : Result Step AllocError) → by < b.passes → IfOk r (IsBatchStep b by g ts c) → OnErr r (c ≡ b) →
+pub batch_stepped : (b c : BookSeen) (by g : ℕ) (ts : List TaskSeen) (r : Result Step AllocError) → by < b.passes → IfOk r (IsBatchStep b by g ts c) → IfOk r (λ (s : Step). All (λ (t : TaskSeen). (t.version).instance ≡ b.instance) ts) → OnErr r (c ≡ b) →
     IfOk r (λ s. (rise : ℕ) × IsRiseOf s rise × CountsRise by rise b c) → IsOfPlace (place_of c) (edition_of c) → BatchStepped b c by g ts r
-batch_stepped b c by g ts (Ok s) own step same counts o =
+batch_stepped b c by g ts (Ok s) own step beside same counts o =
     let place = batch_place b c by g ts s step in
     record {
       place = place;
-      answer = record { book = b; after = c; own = own; place = is_own_place b; shown = refl; step = step; given = batch_given b c by g ts s step o; beside = batch_beside b c by g ts s step };
+      answer = record { book = b; after = c; own = own; place = is_own_place b; shown = refl; step = step; given = batch_given b c by g ts s step o; beside = beside };
       grows = grows_here b c by counts.0 own place counts.2;
       count = (counts.0, counts.1, rise_here b c by counts.0 own place counts.2);
       refused = tt;
     }
-batch_stepped b c by g ts (Err e) own step same counts o =
+batch_stepped b c by g ts (Err e) own step beside same counts o =
     record { place = ap bench_place same; answer = tt; grows = grows_here b c by 0 own (ap bench_place same) (no_rise b c by same); count = tt; refused = ap (λ x. slice_index (counts_of x) by) same }
 
 pub passes_kept : (b c : BookSeen) (by g : ℕ) (ts : List TaskSeen) (r : Result Step AllocError) → IfOk r (IsBatchStep b by g ts c) → OnErr r (c ≡ b) → c.passes ≡ b.passes

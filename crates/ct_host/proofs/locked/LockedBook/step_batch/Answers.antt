@@ -25,7 +25,7 @@ returns c =
     let entries : c.entries-entries.result ≡ entries_of c.args.by after.journal = c.entries-entries.ensures.entries ∙ ap (λ (x : BookSeen). entries_of c.args.by x.journal) c.deref-2.ensures in
     let s : BatchStepped c.args.self.now after c.args.by c.args.target c.step_batch-answer.new.batch.tasks c.step_batch-answer.result =
     subst (λ (x : BookSeen). BatchStepped x after c.args.by c.args.target c.step_batch-answer.new.batch.tasks c.step_batch-answer.result) same
-    (batch_stepped b after c.args.by c.args.target c.step_batch-answer.new.batch.tasks c.step_batch-answer.result own c.step_batch-answer.ensures.answer c.step_batch-answer.ensures.refused c.step_batch-answer.ensures.counts placed) in
+    (batch_stepped b after c.args.by c.args.target c.step_batch-answer.new.batch.tasks c.step_batch-answer.result own c.step_batch-answer.ensures.answer c.step_batch-answer.ensures.instance c.step_batch-answer.ensures.refused c.step_batch-answer.ensures.counts placed) in
     let passes : after.passes ≡ c.args.self.now.passes = ap (λ (p : BenchPlace). p.passes) s.place in
     record {
       place = s.place;

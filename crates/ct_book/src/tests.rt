@@ -1,5 +1,5 @@
 //! The completion of coins of 3 and 5 at cost 2 and 3.
-ghost use Rattle.std.specs.Prelude.{◌≡◌, ◌≤◌, ◌<◌, length};
+ghost use Rattle.std.specs.Prelude.{◌≡◌, ◌≤◌, ◌<◌, [], length};
 ghost use Rattle.ct_vectors.specs.declared.limits.TheConstants.{GRADE_LIMIT, MOVE_LIMIT};
 
 use crate::{Act, Batch, Book, Committed, Entry, Next, Published, Remainder, Step};

@@ -1,9 +1,17 @@
-use Rattle.std.proofs.Common.{List, sym, subst, arith}
+use Rattle.std.proofs.Common.{List, refl, sym, subst, arith}
 use Rattle.ct_book.specs.Tasks.{TaskSeen}
 use Rattle.ct_book.specs.Books.{IsHandedOut}
 use Rattle.ct_book.specs.Batches.{AreHandedOut}
-use Rattle.ct_book.proofs.BatchRuns.{handed_more}
+use Rattle.ct_book.proofs.BatchRuns.{handed_more, handed_instance}
 use Rattle.ct_book.proofs.batches.hand_out_beside.Goals as goal
+
+pub returns-in_default-clause-instance : goal.returns-in_default-clause-instance
+returns-in_default-clause-instance c =
+    handed_instance c.args.book.now.instance c.args.book.now c.loop-book.book c.args.target c.loop-book.tasks.items refl c.loop-book.invariant.handed
+
+pub returns-clause-instance : goal.returns-clause-instance
+returns-clause-instance c =
+    handed_instance c.args.book.now.instance c.args.book.now c.loop-book.book c.args.target c.loop-book.tasks.items refl c.loop-book.invariant.handed
 
 pub loop-book-preserved : goal.loop-book-preserved
 loop-book-preserved c =

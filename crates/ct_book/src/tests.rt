@@ -1,8 +1,8 @@
 //! The completion of coins of 3 and 5 at cost 2 and 3.
-ghost use Rattle.std.specs.Prelude.{◌≡◌, ◌≤◌, ◌<◌, [], length};
+ghost use Rattle.std.specs.Prelude.{◌≡◌, ◌≤◌, ◌<◌, length};
 ghost use Rattle.ct_vectors.specs.declared.limits.TheConstants.{GRADE_LIMIT, MOVE_LIMIT};
 
-use crate::{Act, Batch, Book, Committed, Entry, Next, Published, Remainder, Step};
+use crate::{Act, Book, Committed, Entry, Next, Published, Remainder, Step};
 use ct_instance::{Instance, Job};
 use ct_order::CostList;
 use ct_point::Point;
@@ -169,39 +169,5 @@ fn the_limit_stops_before_a_grade(rt: HostRuntime) {
     match book.step(alloc, 0, 6) {
         Ok(Step::Full(mark)) => assert!(rt; mark.grade == 6 && mark.version.number() == 2),
         _ => panic!(rt; "not full"),
-    }
-}
-
-// A book of eight columns of one row, each of them a generator of grade 1.
-fn eight_columns(rt: &impl Abort, alloc: Global) -> Book
-    ensures passes { result.passes ≡ 1 }
-{
-    let inst = Instance::new(alloc, 1, 8, &[1; 8], &[1, 2, 3, 4, 5, 6, 7, 8]);
-    let shared = Arc::new(alloc, inst.expect(rt, "an instance")).expect(rt, "room");
-    Book::open(alloc, shared, 4096, 1).expect(rt, "room")
-}
-
-// One step that hands out jobs, which are reduced and taken in: how many entries the journal has then.
-fn taken_in(rt: &impl Abort, alloc: Global, book: &mut Book, batch: &mut Batch) -> u64
-    requires pass { 0 < book.old.passes }
-    requires none { (batch.old.tasks ≡ []) × (batch.old.remainders ≡ []) }
-    ensures pass { book.new.passes ≡ book.old.passes }
-    ensures none { (batch.new.tasks ≡ []) × (batch.new.remainders ≡ []) }
-{
-    let Ok(Step::Reduce(first)) = book.step_batch(alloc, 0, 1, batch) else {
-        panic!(rt; "no job")
-    };
-    batch.reduce(alloc, first).expect(rt, "room");
-    book.commit_batch(0, batch);
-    book.entries(0)
-}
-
-#[test]
-fn a_part_of_the_jobs_that_wait_is_handed_out_at_once(rt: HostRuntime) {
-    let alloc = rt.alloc();
-    let mut book = eight_columns(&rt, alloc);
-    let mut batch = Batch::new(alloc);
-    for entries in [1, 3, 5, 6, 7, 8] {
-        assert_eq!(rt; taken_in(&rt, alloc, &mut book, &mut batch), entries);
     }
 }

@@ -1,14 +1,46 @@
 -- Jobs that are handed out, reduced and taken in together.
-use Rattle.std.proofs.Common.{◌≡◌, ℕ, ◌+◌, List, [], ◌∷◌, ◌++◌, map, reverse, All, get_or, sym, ap, subst, ◌∙◌, refl, arith, zero, suc, append_assoc, append-nil}
-use Rattle.std.proofs.lemmas.List.{get_or-map, length-map, reverse-append}
+use Rattle.std.proofs.Common.{◌≡◌, ℕ, ◌+◌, ◌≤◌, ◌<◌, false, List, [], ◌∷◌, ◌++◌, map, reverse, length, All, sym, ap, ap₂, subst, ◌∙◌, refl, arith, append_assoc, append-nil}
+use Rattle.std.proofs.lemmas.List.{map-append, reverse-append, length_push, get_or_push, get_or_append_left}
 use Rattle.std.proofs.lemmas.List.Elements.{All-push}
-use Rattle.ct_instance.specs.Instance.{Problem}
+use Rattle.ct_instance.specs.declared.jobs.Job.{Job}
+use Rattle.ct_instance.specs.Versions.{Covers, level_of}
+use Rattle.ct_completion.specs.Machine.{CompletionState, hands_out}
+use Rattle.ct_completion.specs.Journal.{entries_of}
 use Rattle.ct_version.specs.Editions.{Edition}
 use Rattle.ct_book.specs.declared.outcomes.Committed.{Committed}
 use Rattle.ct_book.specs.declared.outcomes.Committed.TheVariants.{Stored, Already}
-use Rattle.ct_book.specs.Tasks.{TaskSeen, RemainderSeen, task_of}
-use Rattle.ct_book.specs.Books.{BookSeen, IsHandedOut, IsCommitted, CountsRise, rise_of}
+use Rattle.ct_book.specs.declared.tasks.PlacedJob.{PlacedJob}
+use Rattle.ct_book.specs.declared.remainders.Left.{Left}
+use Rattle.ct_book.specs.Tasks.{TaskSeen, RemainderSeen, IsTask, IsHeld, task_of, placed, left_at}
+use Rattle.ct_book.specs.Books.{BookSeen, edition_of, IsCovered, IsHandedOut, IsCommitted, Steps, CountsRise, rise_of}
 use Rattle.ct_book.specs.Batches.{AreHandedOut, AreCommitted}
+
+-- ---- handing out
+
+-- what handing out a job keeps: the version, the mark, and how many jobs wait
+pub handed_keeps : (b c : BookSeen) (j : Job) → Steps b (hands_out j) [] c →
+    (edition_of c ≡ edition_of b) × ((c.state).full ≡ (b.state).full) × (length (c.state).queue ≡ length (b.state).queue)
+handed_keeps b c j s =
+    let step = s.step in
+    let queue : (c.state).queue ≡ step.0 ++ j ∷ [] = ap (λ (t : CompletionState). t.queue) step.2 in
+    let long : length (step.0 ++ j ∷ []) ≡ length (j ∷ step.0) = length_push step.0 j ∙ (let e : length step.0 + 1 ≡ length (j ∷ step.0) = omega arith in e) in
+    let instance : c.instance ≡ b.instance = ap (λ (x : BookSeen). x.instance) s.kept in
+    let number : (c.state).number ≡ (b.state).number = ap (λ (t : CompletionState). t.number) step.2 in (
+      (λ k. record { instance = instance k; number = number k }),
+      ap (λ (t : CompletionState). t.full) step.2,
+      ap length queue ∙ long ∙ ap length (sym step.1),
+    )
+
+-- the job that was handed out waits still
+pub handed_waits : (b c : BookSeen) (j : Job) → Steps b (hands_out j) [] c → 0 < length (c.state).queue
+handed_waits b c j s =
+    let step = s.step in
+    let queue : length (c.state).queue ≡ length (step.0 ++ j ∷ []) = ap (λ (t : CompletionState). length t.queue) step.2 in
+    omega (arith, queue, length_push step.0 j)
+
+-- a version that doesn't cover a grade, by another book of the same version
+still_beyond : (b c : BookSeen) (g : ℕ) → edition_of c ≡ edition_of b → (IsCovered b g → ⊥) → IsCovered c g → ⊥
+still_beyond b c g same beyond = subst (λ (e : Edition). Covers (level_of e.instance e.number) g → ⊥) (sym same) beyond
 
 -- one job more is handed out
 pub handed_more : (b m c : BookSeen) (g : ℕ) (ts : List TaskSeen) (t : TaskSeen) → AreHandedOut b g ts m → IsHandedOut m g t c → AreHandedOut b g (ts ++ t ∷ []) c
@@ -21,11 +53,46 @@ handed_journal b c g [] h = ap (λ (x : BookSeen). x.journal) h
 handed_journal b c g (t ∷ ts) h =
     handed_journal h.0 c g ts h.2 ∙ ap (λ (x : BookSeen). x.journal) ((h.1).steps).kept ∙ append-nil b.journal
 
-pub handed_instance : (i : Problem) (b c : BookSeen) (g : ℕ) (ts : List TaskSeen) → b.instance ≡ i → AreHandedOut b g ts c → All (λ (t : TaskSeen). (t.version).instance ≡ i) ts
-handed_instance i b c g [] e h k d l = absurd (omega arith)
-handed_instance i b c g (t ∷ ts) e h zero d l = ap (λ (v : Edition). v.instance) (h.1).version ∙ e
-handed_instance i b c g (t ∷ ts) e h (suc k) d l =
-    handed_instance i h.0 c g ts (ap (λ (x : BookSeen). x.instance) ((h.1).steps).kept ∙ e) h.2 k d (omega (arith, l))
+-- what holds after these jobs are handed out
+pub record HasHandedOut (b : BookSeen) (ps : List PlacedJob) (c : BookSeen) : Type 0 where
+  pub handed : (g : ℕ) → (IsCovered b g → ⊥) → (b.state).full ≡ false → AreHandedOut b g (map (placed (edition_of b)) ps) c
+  pub tasks : All (λ (p : PlacedJob). IsTask (placed (edition_of b) p)) ps
+  pub same : edition_of c ≡ edition_of b
+  pub full : (c.state).full ≡ (b.state).full
+  pub waits : length (c.state).queue ≡ length (b.state).queue
+
+pub handing_starts : (b : BookSeen) → HasHandedOut b [] b
+handing_starts b = record { handed = λ g beyond unmarked. refl; tasks = λ k d l. absurd (omega (arith, l)); same = refl; full = refl; waits = refl }
+
+pub handing_more : (b m c : BookSeen) (ps : List PlacedJob) (p : PlacedJob) → HasHandedOut b ps m → IsTask (placed (edition_of m) p) → Steps m (hands_out p.job) [] c → HasHandedOut b (ps ++ p ∷ []) c
+handing_more b m c ps p h task steps =
+    let kept = handed_keeps m c p.job steps in
+    record {
+      handed = λ g beyond unmarked.
+          subst (λ (ts : List TaskSeen). AreHandedOut b g ts c) (sym (map-append (placed (edition_of b)) ps (p ∷ [])))
+          (handed_more b m c g (map (placed (edition_of b)) ps) (placed (edition_of b) p) (h.handed g beyond unmarked)
+          (record { beyond = still_beyond b m g h.same beyond; unmarked = h.full ∙ unmarked; version = sym h.same; steps = steps }));
+      tasks = All-push (λ (q : PlacedJob). IsTask (placed (edition_of b) q)) ps p h.tasks (subst (λ (e : Edition). IsTask (placed e p)) h.same task);
+      same = kept.0 ∙ h.same;
+      full = kept.1 ∙ h.full;
+      waits = kept.2 ∙ h.waits;
+    }
+
+-- jobs that are handed out beside a first one are against its version
+pub beside_first : (b m c : BookSeen) (g : ℕ) (t : TaskSeen) (ps : List PlacedJob) → IsHandedOut b g t m →
+    ((h : ℕ) → (IsCovered m h → ⊥) → (m.state).full ≡ false → AreHandedOut m h (map (placed (edition_of m)) ps) c) →
+    AreHandedOut b g (t ∷ map (placed t.version) ps) c
+beside_first b m c g t ps first others =
+    let kept = handed_keeps b m t.job first.steps in
+    let same : edition_of m ≡ t.version = kept.0 ∙ sym first.version in
+    (m, first, subst (λ (e : Edition). AreHandedOut m g (map (placed e) ps) c) same (others g (still_beyond b m g kept.0 first.beyond) (kept.1 ∙ first.unmarked)))
+
+pub tasks_beside : (b m : BookSeen) (g : ℕ) (t : TaskSeen) (ps : List PlacedJob) → IsHandedOut b g t m →
+    All (λ (p : PlacedJob). IsTask (placed (edition_of m) p)) ps → All (λ (p : PlacedJob). IsTask (placed t.version p)) ps
+tasks_beside b m g t ps first h =
+    subst (λ (e : Edition). All (λ (p : PlacedJob). IsTask (placed e p)) ps) ((handed_keeps b m t.job first.steps).0 ∙ sym first.version) h
+
+-- ---- taking in
 
 -- what a commit keeps
 pub committed_kept : (b : BookSeen) (by : ℕ) (r : RemainderSeen) (c : BookSeen) (done : Committed) → IsCommitted b by r c done →
@@ -75,44 +142,44 @@ commits_end b by all left c h e =
     let same : all ≡ h.taken = h.parts ∙ ap (λ (l : List RemainderSeen). l ++ h.taken) e in
     (h.rise, subst (λ (rs : List RemainderSeen). AreCommitted b by rs c h.rise) (sym same) h.committed, h.counts)
 
--- ---- reducing from the last task to the first
+-- ---- reducing from the last job to the first
 
--- these tasks are left, and the others are reduced
-pub record HasReduced (all left : List TaskSeen) (rs : List RemainderSeen) : Type 0 where
-  pub taken : List TaskSeen
+pub all_before : {X : Type 0} (P : X → Type 0) (xs : List X) (x : X) → All P (xs ++ x ∷ []) → All P xs
+all_before P xs x h k d l = subst P (get_or_append_left xs (x ∷ []) d k l) (h k d (omega (arith, l, length_push xs x)))
+
+pub all_last : {X : Type 0} (P : X → Type 0) (xs : List X) (x : X) → All P (xs ++ x ∷ []) → P x
+all_last P xs x h = subst P (get_or_push xs x x (length xs) refl) (h (length xs) x (omega (arith, length_push xs x)))
+
+-- these jobs are left, and the others are reduced
+pub record HasReduced (v : Edition) (all left : List PlacedJob) (ls : List Left) : Type 0 where
+  pub taken : List PlacedJob
   pub parts : all ≡ left ++ taken
-  pub reduced : map task_of rs ≡ reverse taken
+  pub waiting : All (λ (p : PlacedJob). IsTask (placed v p)) left
+  pub held : All (λ (l : Left). IsHeld (left_at v l)) ls
+  pub reduced : map task_of (map (left_at v) ls) ≡ reverse (map (placed v) taken)
 
-pub reduces_more : (all left rest : List TaskSeen) (t : TaskSeen) (rs more : List RemainderSeen) →
-    HasReduced all left rs → left ≡ rest ++ t ∷ [] → map task_of more ≡ map task_of rs ++ t ∷ [] → HasReduced all rest more
-reduces_more all left rest t rs more h e k = record {
-  taken = t ∷ h.taken;
-  parts = h.parts ∙ ap (λ (l : List TaskSeen). l ++ h.taken) e ∙ append_assoc rest (t ∷ []) h.taken;
-  reduced = k ∙ ap (λ (l : List TaskSeen). l ++ t ∷ []) h.reduced ∙ sym (reverse-append (t ∷ []) h.taken);
-}
+left_more : (v : Edition) (ls : List Left) (l : Left) (p : PlacedJob) (ts : List TaskSeen) → map task_of (map (left_at v) ls) ≡ reverse ts → task_of (left_at v l) ≡ placed v p →
+    map task_of (map (left_at v) (ls ++ l ∷ [])) ≡ reverse (placed v p ∷ ts)
+left_more v ls l p ts h e =
+    ap (map task_of) (map-append (left_at v) ls (l ∷ [])) ∙ map-append task_of (map (left_at v) ls) (left_at v l ∷ []) ∙
+    ap₂ (λ (xs : List TaskSeen) (t : TaskSeen). xs ++ t ∷ []) h e ∙ sym (reverse-append (placed v p ∷ []) ts)
 
-pub reduces_end : (all left : List TaskSeen) (first : TaskSeen) (rs more : List RemainderSeen) →
-    HasReduced all left rs → left ≡ [] → map task_of more ≡ map task_of rs ++ first ∷ [] → map task_of more ≡ reverse (first ∷ all)
-reduces_end all left first rs more h e k =
-    let same : all ≡ h.taken = h.parts ∙ ap (λ (l : List TaskSeen). l ++ h.taken) e in
-    k ∙ ap (λ (l : List TaskSeen). l ++ first ∷ []) (h.reduced ∙ ap reverse (sym same)) ∙ sym (reverse-append (first ∷ []) all)
+pub reduces_more : (v : Edition) (all left rest : List PlacedJob) (p : PlacedJob) (ls more : List Left) (l : Left) → HasReduced v all left ls → left ≡ rest ++ p ∷ [] →
+    more ≡ ls ++ l ∷ [] → IsHeld (left_at v l) → task_of (left_at v l) ≡ placed v p → HasReduced v all rest more
+reduces_more v all left rest p ls more l h e m held same =
+    let waiting : All (λ (q : PlacedJob). IsTask (placed v q)) (rest ++ p ∷ []) = subst (All (λ (q : PlacedJob). IsTask (placed v q))) e h.waiting in
+    subst (HasReduced v all rest) (sym m)
+    (record {
+      taken = p ∷ h.taken;
+      parts = h.parts ∙ ap (λ (x : List PlacedJob). x ++ h.taken) e ∙ append_assoc rest (p ∷ []) h.taken;
+      waiting = all_before (λ (q : PlacedJob). IsTask (placed v q)) rest p waiting;
+      held = All-push (λ (x : Left). IsHeld (left_at v x)) ls l h.held held;
+      reduced = left_more v ls l p (map (placed v) h.taken) h.reduced same;
+    })
 
--- ---- the instance of the tasks is that of what they leave
-
-all_reversed : (i : Problem) (ts : List TaskSeen) → All (λ (t : TaskSeen). (t.version).instance ≡ i) ts → All (λ (t : TaskSeen). (t.version).instance ≡ i) (reverse ts)
-all_reversed i [] h = h
-all_reversed i (t ∷ ts) h =
-    subst (All (λ (u : TaskSeen). (u.version).instance ≡ i)) (sym (reverse-append (t ∷ []) ts))
-    (All-push (λ (u : TaskSeen). (u.version).instance ≡ i) (reverse ts) t (all_reversed i ts (λ k d l. h (suc k) d (omega (arith, l)))) (h 0 t (omega arith)))
-
-first_and_others : (i : Problem) (t : TaskSeen) (ts : List TaskSeen) → (t.version).instance ≡ i → All (λ (u : TaskSeen). (u.version).instance ≡ i) ts →
-    All (λ (u : TaskSeen). (u.version).instance ≡ i) (t ∷ ts)
-first_and_others i t ts e h zero d l = e
-first_and_others i t ts e h (suc k) d l = h k d (omega (arith, l))
-
-pub same_instance : (i : Problem) (t : TaskSeen) (ts : List TaskSeen) (rs : List RemainderSeen) → map task_of rs ≡ reverse (t ∷ ts) → (t.version).instance ≡ i →
-    All (λ (u : TaskSeen). (u.version).instance ≡ i) ts → All (λ (r : RemainderSeen). (r.version).instance ≡ i) rs
-same_instance i t ts rs e own h k d l =
-    let back : All (λ (t : TaskSeen). (t.version).instance ≡ i) (map task_of rs) = subst (All (λ (t : TaskSeen). (t.version).instance ≡ i)) (sym e) (all_reversed i (t ∷ ts) (first_and_others i t ts own h)) in
-    let place : get_or (map task_of rs) k (task_of d) ≡ task_of (get_or rs k d) = get_or-map task_of rs k d (task_of d) l in
-    subst (λ (t : TaskSeen). (t.version).instance ≡ i) place (back k (task_of d) (omega (arith, l, length-map rs task_of)))
+pub reduces_end : (v : Edition) (all left : List PlacedJob) (first : PlacedJob) (ls more : List Left) (l : Left) → HasReduced v all left ls → left ≡ [] → more ≡ ls ++ l ∷ [] →
+    task_of (left_at v l) ≡ placed v first → map task_of (map (left_at v) more) ≡ reverse (placed v first ∷ map (placed v) all)
+reduces_end v all left first ls more l h e m same =
+    let whole : all ≡ h.taken = h.parts ∙ ap (λ (x : List PlacedJob). x ++ h.taken) e in
+    ap (λ (x : List Left). map task_of (map (left_at v) x)) m ∙ left_more v ls l first (map (placed v) h.taken) h.reduced same ∙
+    ap (λ (x : List PlacedJob). reverse (placed v first ∷ map (placed v) x)) (sym whole)

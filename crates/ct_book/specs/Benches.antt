@@ -1,14 +1,15 @@
 -- What a bench gives: answers of a book of its place.
-use Rattle.std.specs.Prelude.{ℕ, ◌<◌, ◌≡◌, List, All}
+use Rattle.std.specs.Prelude.{ℕ, ◌<◌, ◌≡◌, List}
 use Rattle.std.specs.Arc.{arc_value}
 use Rattle.ct_instance.specs.Instance.{Problem}
 use Rattle.ct_version.specs.Desks.{Place, IsOfPlace, IsHelp, IsFullMark}
 use Rattle.ct_book.specs.declared.outcomes.Step.{Step}
+use Rattle.ct_book.specs.declared.tasks.PlacedJob.{PlacedJob}
 use Rattle.ct_book.specs.declared.outcomes.Step.TheVariants.{Reduce, Published, Reached, Full}
 use Rattle.ct_book.specs.declared.outcomes.Committed.{Committed}
-use Rattle.ct_book.specs.Tasks.{TaskSeen, RemainderSeen}
+use Rattle.ct_book.specs.Tasks.{RemainderSeen}
 use Rattle.ct_book.specs.Books.{BookSeen, IsStep, IsCommitted}
-use Rattle.ct_book.specs.Batches.{IsBatchStep, AreCommitted}
+use Rattle.ct_book.specs.Batches.{IsBatchStep, AreTasksBeside, AreCommitted}
 
 -- an instance, a limit on the number of moves, and a number of passes
 pub record BenchPlace : Type 0 where
@@ -51,19 +52,19 @@ pub record IsBenchCommit (p : BenchPlace) (r : RemainderSeen) (done : Committed)
   pub place : IsBookOf p book
   pub commit : IsCommitted book by r after done
 
--- the same of several jobs: these are handed out beside that of the answer, and all are of the instance
-pub record IsBenchBatchStep (p : BenchPlace) (g : ℕ) (ts : List TaskSeen) (s : Step) : Type 0 where
+-- the same of several jobs: these are handed out beside that of the answer
+pub record IsBenchBatchStep (p : BenchPlace) (g : ℕ) (ps : List PlacedJob) (s : Step) : Type 0 where
   pub book : BookSeen
   pub after : BookSeen
   pub by : ℕ
   pub own : by < p.passes
   pub place : IsBookOf p book
-  pub step : IsBatchStep book by g ts after s
+  pub step : IsBatchStep book by g ps after s
   pub given : IsGiven p g s
-  pub beside : All (λ t. (t.version).instance ≡ p.instance) ts
+  pub tasks : AreTasksBeside ps s
 
 -- so many of these remainders are stored by some book of the place
-pub record IsBenchBatchCommit (p : BenchPlace) (rs : List RemainderSeen) (rise : ℕ) : Type 0 where
+pub record IsBenchCommitAll (p : BenchPlace) (rs : List RemainderSeen) (rise : ℕ) : Type 0 where
   pub book : BookSeen
   pub after : BookSeen
   pub by : ℕ

@@ -1,17 +1,17 @@
 //! Several jobs at once.
-ghost use Rattle.std.specs.Prelude.{◌≡◌, ◌≤◌, ◌<◌, ◌++◌, ◌∷◌, [], ℕ, map, reverse, All, OnOk, OnErr};
-ghost use Rattle.ct_vectors.specs.declared.limits.TheConstants.{GRADE_LIMIT};
-ghost use Rattle.ct_instance.specs.Instance.{Problem};
-ghost use Rattle.ct_book.specs.Tasks.{task_of};
-ghost use Rattle.ct_book.specs.Books.{CountsRise};
+ghost use Rattle.std.specs.Prelude.{◌≡◌, ◌<◌, ◌++◌, ◌∷◌, [], ℕ, length, map, reverse, All, IfOk, OnOk};
+ghost use Rattle.ct_book.specs.Tasks.{IsTask, IsHeld, task_of, placed, left_at};
+ghost use Rattle.ct_book.specs.Books.{CountsRise, IsCovered, edition_of};
 ghost use Rattle.ct_book.specs.Batches.{AreHandedOut, AreCommitted};
 
 use crate::books::Book;
-use crate::outcomes::Next;
-use crate::remainders::Remainder;
-use crate::tasks::Task;
+use crate::reducing::left_by;
+use crate::remainders::Left;
+use crate::tasks::{PlacedJob, Task};
+use ct_version::Version;
 use std::alloc::{AllocError, Global};
 use std::marker::Model;
+use std::sync::Arc;
 
 // The room for jobs that are handed out beside a first one.
 const ROOM: usize = 63;
@@ -20,114 +20,125 @@ const ROOM: usize = 63;
 // long for the last jobs of a grade.
 const PART: usize = 4;
 
-/// The jobs that a worker has at once, beside the first of them, and what jobs left that is to be committed.
-///
-/// A new one has no memory. It gets room for 63 jobs, some 5 kB, where it first reduces one, and keeps that.
+/// The jobs that a worker has at once, beside the first of them, against whose version they are. It has no memory until it
+/// first reduces jobs, and then keeps room for 63 of them, 1.5 kB.
 #[derive(Drop)]
 pub struct Batch {
-    pub(crate) tasks: Vec<Task>,
-    pub(crate) remainders: Vec<Remainder>,
+    pub(crate) jobs: Vec<PlacedJob>,
 }
 
 impl Model for Batch {
-    ghost use Rattle.ct_book.specs.Batches.{BatchSeen};
+    ghost use Rattle.std.specs.Prelude.{List};
+    ghost use Rattle.ct_book.specs.declared.tasks.PlacedJob.{PlacedJob};
 
-    ghost Value = { BatchSeen };
+    ghost Value = { List PlacedJob };
 
-    ghost view = { λ b. record { tasks = b.tasks.items; remainders = b.remainders.items } };
+    ghost view = { λ b. b.jobs.items };
+}
+
+/// What several jobs leave against one version, which it shares once for all of them.
+#[derive(Drop)]
+pub struct Reduced {
+    pub(crate) version: Arc<Version>,
+    pub(crate) left: Vec<Left>,
+}
+
+impl Model for Reduced {
+    ghost use Rattle.std.specs.Prelude.{map, All};
+    ghost use Rattle.std.specs.Arc.{arc_value};
+    ghost use Rattle.ct_book.specs.Tasks.{IsHeld, left_at};
+    ghost use Rattle.ct_book.specs.Batches.{ReducedSeen};
+
+    ghost Value = { ReducedSeen };
+
+    ghost view = { λ r. record { version = arc_value r.version; remainders = map (left_at (arc_value r.version)) r.left.items } };
+
+    ghost invariant = { λ r. All (λ l. IsHeld (left_at (arc_value r.version) l)) r.left.items };
 }
 
 impl Batch {
-    /// Nothing.
+    /// No jobs.
     pub fn new(alloc: Global) -> Batch
-        ensures { result ≡ record { tasks = []; remainders = [] } }
+        ensures { result ≡ [] }
     {
         Batch {
-            tasks: Vec::new(alloc),
-            remainders: Vec::new(alloc),
+            jobs: Vec::new(alloc),
         }
     }
 
-    /// Reduces the jobs, from the last to the first, so that what they leave is committed in their order. For want of
-    /// memory nothing is kept.
-    pub fn reduce(&mut self, alloc: Global, first: Task) -> Result<(), AllocError>
-        requires { self.old.remainders ≡ [] }
-        ensures tasks { self.new.tasks ≡ [] }
-        ensures reduced { OnOk result (map task_of self.new.remainders ≡ reverse (first ∷ self.old.tasks)) }
-        ensures instance { OnOk result ((i : Problem) → first.version.instance ≡ i → All (λ t. t.version.instance ≡ i) self.old.tasks → All (λ r. r.version.instance ≡ i) self.new.remainders) }
-        ensures refused { OnErr result (self.new.remainders ≡ []) }
+    /// Reduces the jobs, from the last to the first, so that what they leave is taken in in their order. Beside what a
+    /// job leaves it takes 32 bytes a job.
+    pub fn reduce(&mut self, alloc: Global, first: Task) -> Result<Reduced, AllocError>
+        requires { All (λ p. IsTask (placed first.version p)) self.old }
+        ensures jobs { self.new ≡ [] }
+        ensures version { IfOk result (λ r. r.version ≡ first.version) }
+        ensures reduced { IfOk result (λ r. map task_of r.remainders ≡ reverse (first ∷ map (placed first.version) self.old)) }
     {
-        match reduce_all(alloc, first, &mut self.tasks, &mut self.remainders) {
-            Ok(()) => Ok(()),
-            Err(refused) => {
-                self.tasks.clear();
-                self.remainders.clear();
-                Err(refused)
-            }
-        }
+        let (version, first) = first.into_parts();
+        let left = reduced(alloc, &version, first, &mut self.jobs);
+        self.jobs.clear();
+        Ok(Reduced {
+            version,
+            left: left?,
+        })
     }
 }
 
-// Reduces the tasks from the last to the first, and this one after them. It makes the room for it first.
-fn reduce_all(
+// What the jobs leave, from the last to the first, and what this one leaves after them. It makes the room for as many jobs
+// again.
+fn reduced(
     alloc: Global,
-    first: Task,
-    tasks: &mut Vec<Task>,
-    remainders: &mut Vec<Remainder>,
-) -> Result<(), AllocError>
-    requires { remainders.old.items ≡ [] }
-    ensures tasks { OnOk result (tasks.new.items ≡ []) }
-    ensures reduced { OnOk result (map task_of remainders.new.items ≡ reverse (first ∷ tasks.old.items)) }
+    version: &Version,
+    first: PlacedJob,
+    jobs: &mut Vec<PlacedJob>,
+) -> Result<Vec<Left>, AllocError>
+    requires first { IsTask (placed version.now first) }
+    requires others { All (λ p. IsTask (placed version.now p)) jobs.old.items }
+    ensures held { IfOk result (λ ls. All (λ l. IsHeld (left_at version.now l)) ls.items) }
+    ensures reduced { IfOk result (λ ls. map task_of (map (left_at version.now) ls.items) ≡ reverse (placed version.now first ∷ map (placed version.now) jobs.old.items)) }
 {
-    remainders.reserve(ROOM + 1)?;
-    while let Some(task) = tasks.pop() {
-        push_reduced(alloc, task, remainders)?;
+    let mut left = Vec::with_capacity(alloc, jobs.len() + 1)?;
+    while let Some(job) = jobs.pop() {
+        left.push(left_of_job(alloc, version, job)?)?;
     }
-    push_reduced(alloc, first, remainders)?;
-    tasks.reserve(ROOM)
+    left.push(left_of_job(alloc, version, first)?)?;
+    jobs.reserve(ROOM)?;
+    Ok(left)
 }
 
-// Reduces a task, and appends what it leaves.
-fn push_reduced(
-    alloc: Global,
-    task: Task,
-    remainders: &mut Vec<Remainder>,
-) -> Result<(), AllocError>
-    ensures { OnOk result (map task_of remainders.new.items ≡ map task_of remainders.old.items ++ task ∷ []) }
+// What a job of the version's grade leaves.
+fn left_of_job(alloc: Global, version: &Version, at: PlacedJob) -> Result<Left, AllocError>
+    requires { IsTask (placed version.now at) }
+    ensures held { IfOk result (λ l. IsHeld (left_at version.now l)) }
+    ensures task { IfOk result (λ l. task_of (left_at version.now l) ≡ placed version.now at) }
 {
-    match task.reduce(alloc) {
-        Err((_, refused)) => Err(refused),
-        Ok(remainder) => {
-            remainders.push(remainder)?;
-            Ok(())
-        }
-    }
+    let PlacedJob { place, job } = at;
+    let points = left_by(alloc, version, job)?;
+    Ok(Left { place, job, points })
 }
 
 // Hands out jobs beside one that was just handed out, as far as there is room, and no more than a part of those that wait.
-pub fn hand_out_beside(book: &mut Book, target: u64, tasks: &mut Vec<Task>)
-    requires target { target ≤ GRADE_LIMIT }
-    requires none { tasks.old.items ≡ [] }
-    ensures handed { AreHandedOut book.old target tasks.new.items book.new }
-    ensures instance { All (λ t. t.version.instance ≡ book.old.instance) tasks.new.items }
+pub fn hand_out_beside(book: &mut Book, jobs: &mut Vec<PlacedJob>)
+    requires none { jobs.old.items ≡ [] }
+    requires waits { 0 < length book.old.state.queue }
+    ensures handed { (g : ℕ) → (IsCovered book.old g → ⊥) → (book.old.state.full ≡ false) → AreHandedOut book.old g (map (placed (edition_of book.old)) jobs.new.items) book.new }
+    ensures tasks { All (λ p. IsTask (placed (edition_of book.old) p)) jobs.new.items }
 {
-    let most = tasks.capacity().min(book.waiting() / PART);
-    while tasks.len() < most {
-        match book.next(target) {
-            Ok(Next::Reduce(task)) => tasks.push_reserved(task),
-            _ => return,
-        }
+    let most = jobs.capacity().min(book.waiting() / PART);
+    while jobs.len() < most {
+        jobs.push_reserved(book.hand_out());
     }
 }
 
-// Takes remainders in, from the last to the first.
-pub fn commit_all(book: &mut Book, by: u32, remainders: &mut Vec<Remainder>)
+// Takes in what jobs left against a version, from the last to the first.
+pub fn take_in_all(book: &mut Book, by: u32, version: &Version, left: &mut Vec<Left>)
     requires pass { by < book.old.passes }
-    requires instance { All (λ r. r.version.instance ≡ book.old.instance) remainders.old.items }
-    ensures committed { (rise : ℕ) × AreCommitted book.old by remainders.old.items book.new rise × CountsRise by rise book.old book.new }
-    ensures none { remainders.new.items ≡ [] }
+    requires instance { version.now.instance ≡ book.old.instance }
+    requires held { All (λ l. IsHeld (left_at version.now l)) left.old.items }
+    ensures committed { (rise : ℕ) × AreCommitted book.old by (map (left_at version.now) left.old.items) book.new rise × CountsRise by rise book.old book.new }
+    ensures none { left.new.items ≡ [] }
 {
-    while let Some(remainder) = remainders.pop() {
-        book.commit(by, remainder);
+    while let Some(one) = left.pop() {
+        book.take_in(by, version, one);
     }
 }

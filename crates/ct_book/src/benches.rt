@@ -1,10 +1,10 @@
 //! Where a worker takes its steps.
-ghost use Rattle.std.specs.Prelude.{◌≡◌, ◌+◌, ◌≤◌, [], ℕ, All, IfOk, OnErr};
+ghost use Rattle.std.specs.Prelude.{◌≡◌, ◌+◌, ◌≤◌, [], ℕ, IfOk, OnErr};
 ghost use Rattle.ct_vectors.specs.declared.limits.TheConstants.{GRADE_LIMIT};
-ghost use Rattle.ct_book.specs.Benches.{BenchPlace, IsBenchStep, IsBenchCommit, IsBenchBatchStep, IsBenchBatchCommit};
+ghost use Rattle.ct_book.specs.Benches.{BenchPlace, IsBenchStep, IsBenchCommit, IsBenchBatchStep, IsBenchCommitAll};
 ghost use Rattle.ct_book.specs.Books.{IsRiseOf, rise_of};
 
-use crate::batches::Batch;
+use crate::batches::{Batch, Reduced};
 use crate::outcomes::{Committed, Step};
 use crate::remainders::Remainder;
 use std::alloc::{AllocError, Global};
@@ -54,22 +54,21 @@ pub trait Bench {
         batch: &mut Batch,
     ) -> Result<Step, AllocError>
         requires target { target ≤ GRADE_LIMIT }
-        requires none { batch.old.tasks ≡ [] }
+        requires none { batch.old ≡ [] }
         ensures home { home self.new ≡ home self.old }
         ensures loan { loan self.new ≡ loan self.old }
         ensures place { place self.new ≡ place self.old }
-        ensures answer { IfOk result (IsBenchBatchStep (place self.old) target batch.new.tasks) }
-        ensures remainders { batch.new.remainders ≡ batch.old.remainders }
+        ensures answer { IfOk result (IsBenchBatchStep (place self.old) target batch.new) }
         ensures count { IfOk result (λ s. (rise : ℕ) × IsRiseOf s rise × (count self.new ≡ count self.old + rise)) }
         ensures refused { OnErr result ((rise : ℕ) × (rise ≤ 1) × (count self.new ≡ count self.old + rise)) }
-        ensures none { OnErr result (batch.new.tasks ≡ []) };
+        ensures none { OnErr result (batch.new ≡ []) };
 
-    /// Takes all remainders of a batch in, which are of this instance. It may wait for others.
-    fn commit_batch<R: Wait>(&mut self, rt: &R, batch: &mut Batch)
-        requires { All (λ r. r.version.instance ≡ (place self.old).instance) batch.old.remainders }
+    /// Takes in all that jobs left, which are of this instance. It may wait for others.
+    fn commit_all<R: Wait>(&mut self, rt: &R, reduced: &mut Reduced)
+        requires { reduced.old.version.instance ≡ (place self.old).instance }
         ensures home { home self.new ≡ home self.old }
         ensures loan { loan self.new ≡ loan self.old }
         ensures place { place self.new ≡ place self.old }
-        ensures committed { (rise : ℕ) × IsBenchBatchCommit (place self.old) batch.old.remainders rise × (count self.new ≡ count self.old + rise) }
-        ensures batch { batch.new ≡ record batch.old { remainders = [] } };
+        ensures committed { (rise : ℕ) × IsBenchCommitAll (place self.old) reduced.old.remainders rise × (count self.new ≡ count self.old + rise) }
+        ensures none { reduced.new ≡ record reduced.old { remainders = [] } };
 }

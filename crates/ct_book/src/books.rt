@@ -2,7 +2,7 @@
 ghost use Rattle.std.specs.Prelude.{◌≡◌, ◌≤◌, ◌<◌, ◌+◌, ◌^◌, [], ◌∷◌, ◌++◌, ◌↔◌, ℕ, length, vec_len, vec_capacity, All, IsPermutation, IfOk, OnOk, OnErr, MatchResult, IsTrue};
 ghost use Rattle.ct_vectors.specs.declared.limits.TheConstants.{GRADE_LIMIT, MOVE_LIMIT};
 
-use crate::batches::{Batch, commit_all, hand_out_beside};
+use crate::batches::{Batch, Reduced, hand_out_beside, take_in_all};
 use crate::completing::complete;
 use crate::handing::{helped, marked};
 use crate::log::Log;
@@ -52,7 +52,7 @@ impl Book {
     ghost use Rattle.ct_version.specs.Editions.{IsEdition};
     ghost use Rattle.ct_version.specs.Desks.{IsOfPlace};
     ghost use Rattle.ct_book.specs.Books.{edition_of, place_of, IsReadyBook, IsNext, IsCommitted, IsPublished, IsStep, IsRiseOf, counts_of, CountsRise, IsCompleted, IsEnded, rise_of};
-    ghost use Rattle.ct_book.specs.Batches.{IsBatchStep, AreCommitted};
+    ghost use Rattle.ct_book.specs.Batches.{IsBatchStep, AreTasksBeside, AreCommitted};
 
     /// A book at version 0, with its grade opened and an empty journal, for an instance, a limit of 1 to 4,096 moves and
     /// 1 to 33 passes. It is linear in the columns.
@@ -269,7 +269,7 @@ impl Book {
     }
 
     /// Does the next step up to the target, and where it hands out a job, hands out others beside it: as many as the batch
-    /// has room for, and at most a quarter of those that wait. Where the sharing of a version is refused there are fewer.
+    /// has room for, and at most a quarter of those that wait.
     pub fn step_batch(
         &mut self,
         alloc: Global,
@@ -279,31 +279,30 @@ impl Book {
     ) -> Result<Step, AllocError>
         requires pass { by < self.old.passes }
         requires target { target ≤ GRADE_LIMIT }
-        requires none { batch.old.tasks ≡ [] }
-        ensures answer { IfOk result (IsBatchStep self.old by target batch.new.tasks self.new) }
-        ensures instance { IfOk result (λ _. All (λ t. t.version.instance ≡ self.old.instance) batch.new.tasks) }
-        ensures remainders { batch.new.remainders ≡ batch.old.remainders }
+        requires none { batch.old ≡ [] }
+        ensures answer { IfOk result (IsBatchStep self.old by target batch.new self.new) }
+        ensures tasks { IfOk result (AreTasksBeside batch.new) }
         ensures refused { OnErr result (self.new ≡ self.old) }
-        ensures batch { OnErr result (batch.new ≡ batch.old) }
+        ensures none { OnErr result (batch.new ≡ []) }
         ensures counts { IfOk result (λ s. (rise : ℕ) × IsRiseOf s rise × CountsRise by rise self.old self.new) }
     {
         match self.step(alloc, by, target)? {
             Step::Reduce(first) => {
-                hand_out_beside(self, target, &mut batch.tasks);
+                hand_out_beside(self, &mut batch.jobs);
                 Ok(Step::Reduce(first))
             }
             step => Ok(step),
         }
     }
 
-    /// Takes all remainders of a batch in, from the last to the first, as `commit` does. It takes no memory.
-    pub fn commit_batch(&mut self, by: u32, batch: &mut Batch)
+    /// Takes in all that jobs left, from the last to the first, as `commit` does. It takes no memory.
+    pub fn commit_all(&mut self, by: u32, reduced: &mut Reduced)
         requires pass { by < self.old.passes }
-        requires instance { All (λ r. r.version.instance ≡ self.old.instance) batch.old.remainders }
-        ensures committed { (rise : ℕ) × AreCommitted self.old by batch.old.remainders self.new rise × CountsRise by rise self.old self.new }
-        ensures batch { batch.new ≡ record batch.old { remainders = [] } }
+        requires instance { reduced.old.version.instance ≡ self.old.instance }
+        ensures committed { (rise : ℕ) × AreCommitted self.old by reduced.old.remainders self.new rise × CountsRise by rise self.old self.new }
+        ensures none { reduced.new ≡ record reduced.old { remainders = [] } }
     {
-        commit_all(self, by, &mut batch.remainders)
+        take_in_all(self, by, &reduced.version, &mut reduced.left)
     }
 
     /// Goes on in one thread until the target is covered, or the limit on the number of moves is found to stand before it.

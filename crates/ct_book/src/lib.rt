@@ -16,7 +16,7 @@ mod reducing;
 mod remainders;
 mod tasks;
 
-pub use batches::Batch;
+pub use batches::{Batch, Reduced};
 pub use benches::Bench;
 pub use books::Book;
 pub use ct_completion::{Act, Entry};

@@ -30,7 +30,7 @@ impl Model for Task {
 
 impl Task {
     ghost use Rattle.std.specs.Arc.{arc_value};
-    ghost use Rattle.ct_book.specs.Tasks.{IsTask, task_of};
+    ghost use Rattle.ct_book.specs.Tasks.{IsTask, task_of, placed};
 
     // The task of the job at this place of the grade that the version opens.
     pub(crate) fn new(version: Arc<Version>, place: usize, job: Job) -> Task
@@ -42,6 +42,19 @@ impl Task {
             place,
             job,
         }
+    }
+
+    // The version, and the job with its place.
+    pub(crate) fn into_parts(self) -> (Arc<Version>, PlacedJob)
+        ensures same { placed (arc_value result.0) result.1 ≡ self }
+        ensures task { IsTask (placed (arc_value result.0) result.1) }
+    {
+        let Task {
+            version,
+            place,
+            job,
+        } = self;
+        (version, PlacedJob { place, job })
     }
 
     /// Walks both ends of the job by the list of its version, unless it is a coprime pair, and answers what is left. It

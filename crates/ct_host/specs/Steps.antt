@@ -1,5 +1,5 @@
 -- What a pass does to the book behind the lock, and what it has seen afterwards.
-use Rattle.std.specs.Prelude.{ℕ, ◌≤◌, ◌<◌, ◌≡◌, List, [], ◌∷◌, ◌++◌, All}
+use Rattle.std.specs.Prelude.{ℕ, ◌≤◌, ◌<◌, ◌≡◌, List, [], ◌∷◌, ◌++◌}
 use Rattle.std.specs.Arc.{arc_value}
 use Rattle.count_lock.specs.Pairs.{first_number, first_count}
 use Rattle.count_lock.specs.Sight.{LockSight}
@@ -8,11 +8,12 @@ use Rattle.ct_version.specs.declared.pins.Stop.{Stop}
 use Rattle.ct_version.specs.declared.pins.Stop.TheVariants.{Full as Ended, Memory}
 use Rattle.ct_version.specs.Desks.{Extends}
 use Rattle.ct_book.specs.declared.outcomes.Step.{Step}
+use Rattle.ct_book.specs.declared.tasks.PlacedJob.{PlacedJob}
 use Rattle.ct_book.specs.declared.outcomes.Step.TheVariants.{Reduce, Published, Reached, Full}
 use Rattle.ct_book.specs.declared.outcomes.Committed.{Committed}
-use Rattle.ct_book.specs.Tasks.{TaskSeen, RemainderSeen}
+use Rattle.ct_book.specs.Tasks.{RemainderSeen}
 use Rattle.ct_book.specs.Books.{BookSeen, IsStep, IsCommitted, shown_by}
-use Rattle.ct_book.specs.Batches.{IsBatchStep, AreCommitted}
+use Rattle.ct_book.specs.Batches.{IsBatchStep, AreTasksBeside, AreCommitted}
 use Rattle.ct_book.specs.Benches.{BenchPlace, IsBookOf, IsGiven}
 use Rattle.ct_host.specs.Hosts.{PassSeen, last_shown}
 
@@ -34,19 +35,19 @@ pub record IsHostCommit (p : BenchPlace) (by : ℕ) (item : List ℕ) (r : Remai
   pub shown : shown_by book ≡ item
   pub commit : IsCommitted book by r after done
 
--- the same of several jobs: these are handed out beside that of the answer, and all are of the instance
-pub record IsHostBatchStep (p : BenchPlace) (by : ℕ) (item : List ℕ) (g : ℕ) (ts : List TaskSeen) (s : Step) : Type 0 where
+-- the same of several jobs: these are handed out beside that of the answer
+pub record IsHostBatchStep (p : BenchPlace) (by : ℕ) (item : List ℕ) (g : ℕ) (ps : List PlacedJob) (s : Step) : Type 0 where
   pub book : BookSeen
   pub after : BookSeen
   pub own : by < p.passes
   pub place : IsBookOf p book
   pub shown : shown_by book ≡ item
-  pub step : IsBatchStep book by g ts after s
+  pub step : IsBatchStep book by g ps after s
   pub given : IsGiven p g s
-  pub beside : All (λ t. (t.version).instance ≡ p.instance) ts
+  pub tasks : AreTasksBeside ps s
 
 -- so many of these remainders are stored
-pub record IsHostBatchCommit (p : BenchPlace) (by : ℕ) (item : List ℕ) (rs : List RemainderSeen) (rise : ℕ) : Type 0 where
+pub record IsHostCommitAll (p : BenchPlace) (by : ℕ) (item : List ℕ) (rs : List RemainderSeen) (rise : ℕ) : Type 0 where
   pub book : BookSeen
   pub after : BookSeen
   pub own : by < p.passes

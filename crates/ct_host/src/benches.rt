@@ -1,16 +1,16 @@
 //! A bench at a host.
-ghost use Rattle.std.specs.Prelude.{◌≡◌, ◌+◌, ◌≤◌, ◌++◌, ◌∷◌, [], ℕ, All, IfOk, OnErr};
+ghost use Rattle.std.specs.Prelude.{◌≡◌, ◌+◌, ◌≤◌, ◌++◌, ◌∷◌, [], ℕ, IfOk, OnErr};
 ghost use Rattle.ct_vectors.specs.declared.limits.TheConstants.{GRADE_LIMIT};
 ghost use Rattle.ct_book.specs.Books.{IsRiseOf, rise_of};
-ghost use Rattle.ct_book.specs.Benches.{IsBenchStep, IsBenchCommit, IsBenchBatchStep, IsBenchBatchCommit};
+ghost use Rattle.ct_book.specs.Benches.{IsBenchStep, IsBenchCommit, IsBenchBatchStep, IsBenchCommitAll};
 ghost use Rattle.ct_host.specs.Hosts.{IsOfHost, home_of, last_shown};
-ghost use Rattle.ct_host.specs.Steps.{IsHostStep, IsHostCommit, IsHostBatchStep, IsHostBatchCommit, HasSeenStep};
+ghost use Rattle.ct_host.specs.Steps.{IsHostStep, IsHostCommit, IsHostBatchStep, IsHostCommitAll, HasSeenStep};
 
 use crate::homes::HostHome;
 use crate::host::Host;
 use crate::passes::HostPass;
-use crate::stepping::{commit, commit_batch, step, step_batch};
-use ct_book::{Batch, Bench, Committed, Remainder, Step};
+use crate::stepping::{commit, commit_all, step, step_batch};
+use ct_book::{Batch, Bench, Committed, Reduced, Remainder, Step};
 use std::alloc::{AllocError, Global};
 use std::sync::Wait;
 
@@ -77,35 +77,34 @@ impl<'a> Bench for HostBench<'a> {
         batch: &mut Batch,
     ) -> Result<Step, AllocError>
         requires target { target ≤ GRADE_LIMIT }
-        requires none { batch.old.tasks ≡ [] }
+        requires none { batch.old ≡ [] }
         ensures home { home_of self.new.host.now self.new.pass.now ≡ home_of self.old.host.now self.old.pass.now }
         ensures loan { self.new.pass.ghost_name ≡ self.old.pass.ghost_name }
         ensures place { self.new.host.now.place ≡ self.old.host.now.place }
-        ensures answer { IfOk result (IsBenchBatchStep self.old.host.now.place target batch.new.tasks) }
-        ensures remainders { batch.new.remainders ≡ batch.old.remainders }
+        ensures answer { IfOk result (IsBenchBatchStep self.old.host.now.place target batch.new) }
         ensures count { IfOk result (λ s. (rise : ℕ) × IsRiseOf s rise × (self.new.pass.now.steps ≡ self.old.pass.now.steps + rise)) }
         ensures refused { OnErr result ((rise : ℕ) × (rise ≤ 1) × (self.new.pass.now.steps ≡ self.old.pass.now.steps + rise)) }
-        ensures none { OnErr result (batch.new.tasks ≡ []) }
+        ensures none { OnErr result (batch.new ≡ []) }
         ensures one_lock { self.new.pass.now.shown ≡ self.old.pass.now.shown ++ last_shown self.new.pass.now.shown ∷ [] }
-        ensures shown { IfOk result (IsHostBatchStep self.old.host.now.place self.old.pass.now.number (last_shown self.new.pass.now.shown) target batch.new.tasks) }
+        ensures shown { IfOk result (IsHostBatchStep self.old.host.now.place self.old.pass.now.number (last_shown self.new.pass.now.shown) target batch.new) }
         ensures seen { IfOk result (HasSeenStep self.new.pass.now.seen) }
         ensures rises { self.old.pass.now.seen ≤ self.new.pass.now.seen }
     {
         step_batch(self.host, rt, alloc, self.pass, target, batch)
     }
 
-    /// Takes all remainders of a batch in, for which it gets the lock once.
-    fn commit_batch<R: Wait>(&mut self, rt: &R, batch: &mut Batch)
-        requires { All (λ r. r.version.instance ≡ self.old.host.now.place.instance) batch.old.remainders }
+    /// Takes in all that jobs left, for which it gets the lock once.
+    fn commit_all<R: Wait>(&mut self, rt: &R, reduced: &mut Reduced)
+        requires { reduced.old.version.instance ≡ self.old.host.now.place.instance }
         ensures home { home_of self.new.host.now self.new.pass.now ≡ home_of self.old.host.now self.old.pass.now }
         ensures loan { self.new.pass.ghost_name ≡ self.old.pass.ghost_name }
         ensures place { self.new.host.now.place ≡ self.old.host.now.place }
-        ensures committed { (rise : ℕ) × IsBenchBatchCommit self.old.host.now.place batch.old.remainders rise × (self.new.pass.now.steps ≡ self.old.pass.now.steps + rise) }
-        ensures batch { batch.new ≡ record batch.old { remainders = [] } }
+        ensures committed { (rise : ℕ) × IsBenchCommitAll self.old.host.now.place reduced.old.remainders rise × (self.new.pass.now.steps ≡ self.old.pass.now.steps + rise) }
+        ensures none { reduced.new ≡ record reduced.old { remainders = [] } }
         ensures one_lock { self.new.pass.now.shown ≡ self.old.pass.now.shown ++ last_shown self.new.pass.now.shown ∷ [] }
-        ensures shown { (rise : ℕ) × IsHostBatchCommit self.old.host.now.place self.old.pass.now.number (last_shown self.new.pass.now.shown) batch.old.remainders rise × (self.new.pass.now.steps ≡ self.old.pass.now.steps + rise) }
+        ensures shown { (rise : ℕ) × IsHostCommitAll self.old.host.now.place self.old.pass.now.number (last_shown self.new.pass.now.shown) reduced.old.remainders rise × (self.new.pass.now.steps ≡ self.old.pass.now.steps + rise) }
         ensures seen { self.new.pass.now.seen ≡ self.old.pass.now.seen }
     {
-        commit_batch(self.host, rt, self.pass, batch)
+        commit_all(self.host, rt, self.pass, reduced)
     }
 }

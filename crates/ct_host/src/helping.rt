@@ -8,7 +8,7 @@ ghost use Rattle.ct_host.specs.Steps.{HasSeenHelp, HasSeenStop, Helps};
 
 use crate::host::Host;
 use crate::passes::HostPass;
-use crate::stepping::{commit_batch, step_batch};
+use crate::stepping::{commit_all, step_batch};
 use ct_book::{Batch, Step};
 use ct_version::{Helped, Stop};
 use std::alloc::Global;
@@ -37,12 +37,10 @@ pub fn help<R: Wait>(
             Ok(Step::Reached(helped)) => return Ok(helped),
             Ok(Step::Full(mark)) => return Err(Stop::Full(mark)),
             Ok(Step::Published(_version)) => {}
-            Ok(Step::Reduce(first)) => {
-                if batch.reduce(alloc, first).is_err() {
-                    return Err(Stop::Memory);
-                }
-                commit_batch(host, rt, pass, &mut batch);
-            }
+            Ok(Step::Reduce(first)) => match batch.reduce(alloc, first) {
+                Err(_) => return Err(Stop::Memory),
+                Ok(mut reduced) => commit_all(host, rt, pass, &mut reduced),
+            },
         }
     }
     unreachable!()

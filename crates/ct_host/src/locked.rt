@@ -1,10 +1,10 @@
 //! What the lock holds, and what is done to it there.
-ghost use Rattle.std.specs.Prelude.{◌≡◌, ◌+◌, ◌≤◌, ◌<◌, ◌^◌, [], ℕ, slice_index, All, IfOk, OnErr};
+ghost use Rattle.std.specs.Prelude.{◌≡◌, ◌+◌, ◌≤◌, ◌<◌, ◌^◌, [], ℕ, slice_index, IfOk, OnErr};
 ghost use Rattle.ct_vectors.specs.declared.limits.TheConstants.{GRADE_LIMIT};
 
 use crate::names::BookName;
 use count_lock::Counted;
-use ct_book::{Batch, Book, Committed, Remainder, Step};
+use ct_book::{Batch, Book, Committed, Reduced, Remainder, Step};
 use ct_completion::Entry;
 use std::alloc::{AllocError, Global};
 use std::marker::Model;
@@ -46,7 +46,7 @@ impl LockedBook {
     ghost use Rattle.count_lock.specs.Pairs.{GrowsAt};
     ghost use Rattle.ct_book.specs.Books.{IsRiseOf, rise_of, counts_of, shown_by};
     ghost use Rattle.ct_host.specs.Values.{bench_place};
-    ghost use Rattle.ct_host.specs.Steps.{IsHostStep, IsHostCommit, IsHostBatchStep, IsHostBatchCommit};
+    ghost use Rattle.ct_host.specs.Steps.{IsHostStep, IsHostCommit, IsHostBatchStep, IsHostCommitAll};
 
     pub fn new(alloc: Global, book: Book) -> Result<LockedBook, AllocError>
         ensures { IfOk result (λ l. l ≡ book) }
@@ -107,15 +107,14 @@ impl LockedBook {
     ) -> Result<Step, AllocError>
         requires pass { by < self.old.passes }
         requires target { target ≤ GRADE_LIMIT }
-        requires none { batch.old.tasks ≡ [] }
+        requires none { batch.old ≡ [] }
         ensures place { bench_place self.new ≡ bench_place self.old }
-        ensures answer { IfOk result (IsHostBatchStep (bench_place self.old) by (shown_by self.old) target batch.new.tasks) }
-        ensures remainders { batch.new.remainders ≡ batch.old.remainders }
+        ensures answer { IfOk result (IsHostBatchStep (bench_place self.old) by (shown_by self.old) target batch.new) }
         ensures grows { GrowsAt by (counts_of self.old) (counts_of self.new) }
         ensures fits { slice_index (counts_of self.new) by < 2 ^ 64 }
         ensures count { IfOk result (λ s. (rise : ℕ) × IsRiseOf s rise × (slice_index (counts_of self.new) by ≡ slice_index (counts_of self.old) by + rise)) }
         ensures refused { OnErr result (slice_index (counts_of self.new) by ≡ slice_index (counts_of self.old) by) }
-        ensures batch { OnErr result (batch.new ≡ batch.old) }
+        ensures none { OnErr result (batch.new ≡ []) }
     {
         let answer = self.book.step_batch(alloc, by, target, batch);
         // Both are called for what they say of the book alone.
@@ -124,17 +123,17 @@ impl LockedBook {
         answer
     }
 
-    // Takes all remainders of a batch in.
-    pub fn commit_batch(&mut self, by: u32, batch: &mut Batch)
+    // Takes in all that jobs left.
+    pub fn commit_all(&mut self, by: u32, reduced: &mut Reduced)
         requires pass { by < self.old.passes }
-        requires instance { All (λ r. r.version.instance ≡ self.old.instance) batch.old.remainders }
+        requires instance { reduced.old.version.instance ≡ self.old.instance }
         ensures place { bench_place self.new ≡ bench_place self.old }
         ensures grows { GrowsAt by (counts_of self.old) (counts_of self.new) }
         ensures fits { slice_index (counts_of self.new) by < 2 ^ 64 }
-        ensures committed { (rise : ℕ) × IsHostBatchCommit (bench_place self.old) by (shown_by self.old) batch.old.remainders rise × (slice_index (counts_of self.new) by ≡ slice_index (counts_of self.old) by + rise) }
-        ensures batch { batch.new ≡ record batch.old { remainders = [] } }
+        ensures committed { (rise : ℕ) × IsHostCommitAll (bench_place self.old) by (shown_by self.old) reduced.old.remainders rise × (slice_index (counts_of self.new) by ≡ slice_index (counts_of self.old) by + rise) }
+        ensures none { reduced.new ≡ record reduced.old { remainders = [] } }
     {
-        self.book.commit_batch(by, batch);
+        self.book.commit_all(by, reduced);
         // Called for what it says of the book alone.
         let _entries = self.book.entries(by);
     }

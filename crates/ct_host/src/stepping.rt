@@ -1,5 +1,5 @@
 //! Steps of the book behind the lock.
-ghost use Rattle.std.specs.Prelude.{◌≡◌, ◌+◌, ◌≤◌, ◌++◌, ◌∷◌, [], ℕ, None, length, All, IfOk, OnErr};
+ghost use Rattle.std.specs.Prelude.{◌≡◌, ◌+◌, ◌≤◌, ◌++◌, ◌∷◌, [], ℕ, None, length, IfOk, OnErr};
 ghost use Rattle.ct_vectors.specs.declared.limits.TheConstants.{GRADE_LIMIT};
 ghost use Rattle.count_lock.specs.Pairs.{first_number, first_count};
 ghost use Rattle.count_lock.specs.Sight.{IsOfLock};
@@ -8,14 +8,14 @@ ghost use Rattle.ct_book.specs.Books.{IsRiseOf, rise_of};
 ghost use Rattle.ct_book.specs.Benches.{IsGiven};
 ghost use Rattle.ct_host.specs.Values.{bench_place};
 ghost use Rattle.ct_host.specs.Hosts.{IsOfHost, last_shown};
-ghost use Rattle.ct_host.specs.Steps.{IsHostStep, IsHostCommit, IsHostBatchStep, IsHostBatchCommit, HasSeenStep, HasVersion, OneLock};
+ghost use Rattle.ct_host.specs.Steps.{IsHostStep, IsHostCommit, IsHostBatchStep, IsHostCommitAll, HasSeenStep, HasVersion, OneLock};
 
 use crate::host::Host;
 use crate::locked::LockedBook;
 use crate::passes::HostPass;
 use crate::pinning::put;
 use count_lock::{CountLock, LockPass};
-use ct_book::{Batch, Committed, Remainder, Step};
+use ct_book::{Batch, Committed, Reduced, Remainder, Step};
 use std::alloc::{AllocError, Global};
 use std::sync::Wait;
 
@@ -128,17 +128,16 @@ pub fn step_batch<R: Wait>(
 ) -> Result<Step, AllocError>
     requires own { IsOfHost host.now pass.old }
     requires target { target ≤ GRADE_LIMIT }
-    requires none { batch.old.tasks ≡ [] }
+    requires none { batch.old ≡ [] }
     ensures kept { pass.new ≡ record pass.old { steps = pass.new.steps; seen = pass.new.seen; words = pass.new.words; shown = pass.new.shown } }
     ensures one_lock { pass.new.shown ≡ pass.old.shown ++ last_shown pass.new.shown ∷ [] }
     ensures words { Extends pass.old.words pass.new.words }
-    ensures answer { IfOk result (IsHostBatchStep host.now.place pass.old.number (last_shown pass.new.shown) target batch.new.tasks) }
-    ensures remainders { batch.new.remainders ≡ batch.old.remainders }
+    ensures answer { IfOk result (IsHostBatchStep host.now.place pass.old.number (last_shown pass.new.shown) target batch.new) }
     ensures rises { pass.old.seen ≤ pass.new.seen }
     ensures seen { IfOk result (HasSeenStep pass.new.seen) }
     ensures count { IfOk result (λ s. (rise : ℕ) × IsRiseOf s rise × (pass.new.steps ≡ pass.old.steps + rise)) }
     ensures refused { OnErr result ((rise : ℕ) × (rise ≤ 1) × (pass.new.steps ≡ pass.old.steps + rise)) }
-    ensures none { OnErr result (batch.new.tasks ≡ []) }
+    ensures none { OnErr result (batch.new ≡ []) }
 {
     let step = step_batch_in(&host.lock, rt, alloc, &mut pass.lock, target, batch)?;
     shown(host, rt, pass, step)
@@ -156,13 +155,12 @@ fn step_batch_in<R: Wait>(
     requires own { IsOfLock lock.now pass.old }
     requires idle { (pass.old.held ≡ None) × (length pass.old.pairs ≡ 1) }
     requires target { target ≤ GRADE_LIMIT }
-    requires none { batch.old.tasks ≡ [] }
+    requires none { batch.old ≡ [] }
     ensures one_lock { OneLock pass.old pass.new }
-    ensures answer { IfOk result (IsHostBatchStep (bench_place lock.now.first) (first_number pass.old.pairs) (last_shown pass.new.shown) target batch.new.tasks) }
-    ensures remainders { batch.new.remainders ≡ batch.old.remainders }
+    ensures answer { IfOk result (IsHostBatchStep (bench_place lock.now.first) (first_number pass.old.pairs) (last_shown pass.new.shown) target batch.new) }
     ensures count { IfOk result (λ s. (rise : ℕ) × IsRiseOf s rise × (first_count pass.new.pairs ≡ first_count pass.old.pairs + rise)) }
     ensures refused { OnErr result (first_count pass.new.pairs ≡ first_count pass.old.pairs) }
-    ensures batch { OnErr result (batch.new ≡ batch.old) }
+    ensures none { OnErr result (batch.new ≡ []) }
 {
     let number = pass.number();
     let mut book = lock.lock(rt, pass);
@@ -171,33 +169,33 @@ fn step_batch_in<R: Wait>(
     answer
 }
 
-// Takes all remainders of a batch in, in one hold of the book's lock.
-pub fn commit_batch<R: Wait>(host: &Host, rt: &R, pass: &mut HostPass, batch: &mut Batch)
+// Takes in all that jobs left, in one hold of the book's lock.
+pub fn commit_all<R: Wait>(host: &Host, rt: &R, pass: &mut HostPass, reduced: &mut Reduced)
     requires own { IsOfHost host.now pass.old }
-    requires instance { All (λ r. r.version.instance ≡ host.now.place.instance) batch.old.remainders }
+    requires instance { reduced.old.version.instance ≡ host.now.place.instance }
     ensures kept { pass.new ≡ record pass.old { steps = pass.new.steps; shown = pass.new.shown } }
     ensures one_lock { pass.new.shown ≡ pass.old.shown ++ last_shown pass.new.shown ∷ [] }
-    ensures committed { (rise : ℕ) × IsHostBatchCommit host.now.place pass.old.number (last_shown pass.new.shown) batch.old.remainders rise × (pass.new.steps ≡ pass.old.steps + rise) }
-    ensures batch { batch.new ≡ record batch.old { remainders = [] } }
+    ensures committed { (rise : ℕ) × IsHostCommitAll host.now.place pass.old.number (last_shown pass.new.shown) reduced.old.remainders rise × (pass.new.steps ≡ pass.old.steps + rise) }
+    ensures none { reduced.new ≡ record reduced.old { remainders = [] } }
 {
-    commit_batch_in(&host.lock, rt, &mut pass.lock, batch)
+    commit_all_in(&host.lock, rt, &mut pass.lock, reduced)
 }
 
-fn commit_batch_in<R: Wait>(
+fn commit_all_in<R: Wait>(
     lock: &CountLock<LockedBook>,
     rt: &R,
     pass: &mut LockPass<LockedBook>,
-    batch: &mut Batch,
+    reduced: &mut Reduced,
 )
     requires own { IsOfLock lock.now pass.old }
     requires idle { (pass.old.held ≡ None) × (length pass.old.pairs ≡ 1) }
-    requires instance { All (λ r. r.version.instance ≡ lock.now.first.instance) batch.old.remainders }
+    requires instance { reduced.old.version.instance ≡ lock.now.first.instance }
     ensures one_lock { OneLock pass.old pass.new }
-    ensures committed { (rise : ℕ) × IsHostBatchCommit (bench_place lock.now.first) (first_number pass.old.pairs) (last_shown pass.new.shown) batch.old.remainders rise × (first_count pass.new.pairs ≡ first_count pass.old.pairs + rise) }
-    ensures batch { batch.new ≡ record batch.old { remainders = [] } }
+    ensures committed { (rise : ℕ) × IsHostCommitAll (bench_place lock.now.first) (first_number pass.old.pairs) (last_shown pass.new.shown) reduced.old.remainders rise × (first_count pass.new.pairs ≡ first_count pass.old.pairs + rise) }
+    ensures none { reduced.new ≡ record reduced.old { remainders = [] } }
 {
     let number = pass.number();
     let mut book = lock.lock(rt, pass);
-    book.commit_batch(number, batch);
+    book.commit_all(number, reduced);
     lock.unlock(pass, book);
 }

@@ -39,12 +39,10 @@ pub fn work<R: Wait, B: Bench, G: Gate>(
             Ok(Step::Reached(helped)) => return Ok(helped),
             Ok(Step::Full(mark)) => return Err(Stop::Full(mark)),
             Ok(Step::Published(_version)) => {}
-            Ok(Step::Reduce(first)) => {
-                if batch.reduce(alloc, first).is_err() {
-                    return Err(Stop::Memory);
-                }
-                bench.commit_batch(rt, &mut batch);
-            }
+            Ok(Step::Reduce(first)) => match batch.reduce(alloc, first) {
+                Err(_) => return Err(Stop::Memory),
+                Ok(mut reduced) => bench.commit_all(rt, &mut reduced),
+            },
         }
         turn = turn.saturating_add(1);
     }

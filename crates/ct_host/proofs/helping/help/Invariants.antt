@@ -5,6 +5,5 @@ use Rattle.ct_host.proofs.helping.help.Given as goal
 abbrev pub invariant-loop : goal.invariant-loop
 invariant-loop g l = record {
   helps : Helps l.initial.pass l.pass;
-  tasks : l.batch.tasks ≡ [];
-  remainders : l.batch.remainders ≡ [];
+  none : l.batch ≡ [];
 }

@@ -23,4 +23,4 @@ returns-clause-answer g c =
     let had : c.unlock.new.pass ≡ after_lock old (slice_index after (first_number old.pairs)) (shown_by c.lock-book.result) =
     had_lock old c.lock-book.new.pass c.unlock.new.pass (shown_by c.lock-book.result) (counts_of c.lock-book.result) after c.lock-book.ensures.held c.unlock.ensures c.requires.idle.0 in
     let item : last_shown c.unlock.new.pass.shown ≡ shown_by c.lock-book.result = item_shown old c.unlock.new.pass (slice_index after (first_number old.pairs)) (shown_by c.lock-book.result) had in
-    subst (λ (x : BenchPlace × ℕ × List ℕ). IfOk c.step_batch-answer.result (IsHostBatchStep x.0 x.1 x.2 c.args.target c.step_batch-answer.new.batch.tasks)) (λ i. (c.lock-book.ensures.name i, c.number-number.ensures i, sym item i)) c.step_batch-answer.ensures.answer
+    subst (λ (x : BenchPlace × ℕ × List ℕ). IfOk c.step_batch-answer.result (IsHostBatchStep x.0 x.1 x.2 c.args.target c.step_batch-answer.new.batch)) (λ i. (c.lock-book.ensures.name i, c.number-number.ensures i, sym item i)) c.step_batch-answer.ensures.answer

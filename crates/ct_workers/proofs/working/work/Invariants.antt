@@ -7,6 +7,5 @@ invariant-loop g l = record {
   loan : g.B.Bench.loan l.bench ≡ g.B.Bench.loan l.initial.bench;
   place : g.B.Bench.place l.bench ≡ g.B.Bench.place l.initial.bench;
   count : g.B.Bench.count l.initial.bench ≤ g.B.Bench.count l.bench;
-  tasks : l.batch.tasks ≡ [];
-  remainders : l.batch.remainders ≡ [];
+  none : l.batch ≡ [];
 }

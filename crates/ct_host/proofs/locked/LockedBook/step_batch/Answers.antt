@@ -12,7 +12,7 @@ entries-entries-requires c =
     let b = c.deref_mut.result.now in let after = c.step_batch-answer.new.self in let same : b ≡ c.args.self.now = c.deref_mut.ensures.value ∙ c.self.view_is in
     let own : c.args.by < b.passes = subst (λ (x : BookSeen). c.args.by < x.passes) (sym same) c.requires.pass in
     let passes : after.passes ≡ b.passes =
-    passes_kept b after c.args.by c.args.target c.step_batch-answer.new.batch.tasks c.step_batch-answer.result c.step_batch-answer.ensures.answer c.step_batch-answer.ensures.refused in
+    passes_kept b after c.args.by c.args.target c.step_batch-answer.new.batch c.step_batch-answer.result c.step_batch-answer.ensures.answer c.step_batch-answer.ensures.refused in
     omega (arith, own, passes, ap (λ (x : BookSeen). x.passes) c.deref-2.ensures)
 
 pub returns : goal.returns
@@ -23,9 +23,9 @@ returns c =
     subst (λ (x : BookSeen). IsOfPlace (place_of x) (edition_of x)) c.deref.ensures
     (subst (IsOfPlace (place_of c.deref.result.now)) c.version-version.ensures.version c.version-version.ensures.place) in
     let entries : c.entries-entries.result ≡ entries_of c.args.by after.journal = c.entries-entries.ensures.entries ∙ ap (λ (x : BookSeen). entries_of c.args.by x.journal) c.deref-2.ensures in
-    let s : BatchStepped c.args.self.now after c.args.by c.args.target c.step_batch-answer.new.batch.tasks c.step_batch-answer.result =
-    subst (λ (x : BookSeen). BatchStepped x after c.args.by c.args.target c.step_batch-answer.new.batch.tasks c.step_batch-answer.result) same
-    (batch_stepped b after c.args.by c.args.target c.step_batch-answer.new.batch.tasks c.step_batch-answer.result own c.step_batch-answer.ensures.answer c.step_batch-answer.ensures.instance c.step_batch-answer.ensures.refused c.step_batch-answer.ensures.counts placed) in
+    let s : BatchStepped c.args.self.now after c.args.by c.args.target c.step_batch-answer.new.batch c.step_batch-answer.result =
+    subst (λ (x : BookSeen). BatchStepped x after c.args.by c.args.target c.step_batch-answer.new.batch c.step_batch-answer.result) same
+    (batch_stepped b after c.args.by c.args.target c.step_batch-answer.new.batch c.step_batch-answer.result own c.step_batch-answer.ensures.answer c.step_batch-answer.ensures.tasks c.step_batch-answer.ensures.refused c.step_batch-answer.ensures.counts placed) in
     let passes : after.passes ≡ c.args.self.now.passes = ap (λ (p : BenchPlace). p.passes) s.place in
     record {
       place = s.place;
@@ -34,6 +34,5 @@ returns c =
       fits = fits_here after c.args.by c.entries-entries.result _ (omega (arith, passes, c.requires.pass)) entries c.entries-entries.type_inv;
       count = s.count;
       refused = s.refused;
-      remainders = c.step_batch-answer.ensures.remainders;
-      batch = c.step_batch-answer.ensures.batch;
+      none = c.step_batch-answer.ensures.none;
     }

@@ -6,12 +6,18 @@ use Rattle.ct_instance.specs.Jobs.{IsJob, job_grade_of}
 use Rattle.ct_instance.specs.Versions.{version_list, IsRemainder}
 use Rattle.ct_completion.specs.Machine.{opened_jobs}
 use Rattle.ct_version.specs.Editions.{Edition, IsEdition}
+use Rattle.ct_book.specs.declared.tasks.PlacedJob.{PlacedJob}
+use Rattle.ct_book.specs.declared.remainders.Left.{Left}
+use Rattle.ct_book.specs.Queues.{points_seen}
 
 -- the version whose opened grade has the job, the place of the job among the jobs of that grade, and the job
 pub record TaskSeen : Type 0 where
   pub version : Edition
   pub place : ℕ
   pub job : Job
+
+abbrev pub placed : Edition → PlacedJob → TaskSeen
+placed v p = record { version = v; place = p.place; job = p.job }
 
 -- the job is of the opened grade, and its grade is within that of a walk
 pub record IsTask (t : TaskSeen) : Type 0 where
@@ -29,6 +35,9 @@ pub record RemainderSeen : Type 0 where
 
 abbrev pub task_of : RemainderSeen → TaskSeen
 task_of r = record { version = r.version; place = r.place; job = r.job }
+
+abbrev pub left_at : Edition → Left → RemainderSeen
+left_at v l = record { version = v; place = l.place; job = l.job; points = points_seen l.points }
 
 -- it is the remainder of its job against its version
 pub record IsHeld (r : RemainderSeen) : Type 0 where

@@ -10,8 +10,8 @@ use crate::opening::{Opening, opened_above, shared};
 use crate::outcomes::{Committed, Next, Published, Step};
 use crate::publishing::{Following, moves_left, next_version};
 use crate::queue::Queue;
-use crate::remainders::Remainder;
-use crate::tasks::Task;
+use crate::remainders::{Left, Remainder};
+use crate::tasks::{PlacedJob, Task};
 use ct_completion::{Act, Entry};
 use ct_instance::Instance;
 use ct_jobs::{Addition, Buckets};
@@ -47,12 +47,13 @@ impl Model for Book {
 
 impl Book {
     ghost use Rattle.std.specs.Arc.{arc_value};
-    ghost use Rattle.ct_completion.specs.Machine.{just_opened};
+    ghost use Rattle.ct_completion.specs.Machine.{hands_out, just_opened};
     ghost use Rattle.ct_completion.specs.Journal.{entries_of, AreSerials, IsReplay};
     ghost use Rattle.ct_version.specs.Editions.{IsEdition};
     ghost use Rattle.ct_version.specs.Desks.{IsOfPlace};
-    ghost use Rattle.ct_book.specs.Books.{edition_of, place_of, IsReadyBook, IsNext, IsCommitted, IsPublished, IsStep, IsRiseOf, counts_of, CountsRise, IsCompleted, IsEnded, rise_of};
+    ghost use Rattle.ct_book.specs.Books.{edition_of, place_of, IsCovered, IsReadyBook, Steps, IsNext, IsCommitted, IsPublished, IsStep, IsRiseOf, counts_of, CountsRise, IsCompleted, IsEnded, rise_of};
     ghost use Rattle.ct_book.specs.Batches.{IsBatchStep, AreTasksBeside, AreCommitted};
+    ghost use Rattle.ct_book.specs.Tasks.{IsTask, IsHeld, placed, left_at};
 
     /// A book at version 0, with its grade opened and an empty journal, for an instance, a limit of 1 to 4,096 moves and
     /// 1 to 33 passes. It is linear in the columns.
@@ -165,16 +166,29 @@ impl Book {
         ensures count { entries_of by self.new.journal ≡ entries_of by self.old.journal + rise_of result }
         ensures others { (pass : ℕ) → (pass ≡ by → ⊥) → entries_of pass self.new.journal ≡ entries_of pass self.old.journal }
     {
+        let (version, left) = r.into_parts();
+        self.take_in(by, &version, left)
+    }
+
+    // Takes in what a job left against this version. It is stored, and written down, where that is the book's version and
+    // the job isn't resolved; else nothing changes. It takes no memory.
+    pub(crate) fn take_in(&mut self, by: u32, version: &Version, left: Left) -> Committed
+        requires pass { by < self.old.passes }
+        requires instance { version.now.instance ≡ self.old.instance }
+        requires held { IsHeld (left_at version.now left) }
+        ensures answer { IsCommitted self.old by (left_at version.now left) self.new result }
+        ensures count { entries_of by self.new.journal ≡ entries_of by self.old.journal + rise_of result }
+        ensures others { (pass : ℕ) → (pass ≡ by → ⊥) → entries_of pass self.new.journal ≡ entries_of pass self.old.journal }
+    {
         let number = self.version.number();
-        if r.number() != number {
+        if version.number() != number {
             return Committed::Already { number };
         }
-        let place = r.place();
+        let Left { place, job, points } = left;
         if self.queue.is_resolved(place) {
             return Committed::Already { number };
         }
-        let job = r.job();
-        self.queue.store(place, r.into_points());
+        self.queue.store(place, points);
         let place = self.log.append(by, Act::Stored(job));
         Committed::Stored { place }
     }
@@ -197,8 +211,19 @@ impl Book {
             return Ok(Next::Publish);
         }
         let version = Arc::try_clone(&self.version)?;
-        let (place, job) = self.queue.hand_out();
+        let PlacedJob { place, job } = self.hand_out();
         Ok(Next::Reduce(Task::new(version, place, job)))
+    }
+
+    // Hands out the job that waits first: the one that wasn't handed out yet, or that was longest ago. It takes no memory.
+    pub(crate) fn hand_out(&mut self) -> PlacedJob
+        requires some { 0 < length self.old.state.queue }
+        requires grade { (g : ℕ) × (g ≤ GRADE_LIMIT) × (IsCovered self.old g → ⊥) }
+        ensures task { IsTask (placed (edition_of self.old) result) }
+        ensures steps { Steps self.old (hands_out result.job) [] self.new }
+    {
+        let (place, job) = self.queue.hand_out();
+        PlacedJob { place, job }
     }
 
     /// Publishes the next version, whose list has the moves that the resolved jobs give, and opens its grade; or marks the

@@ -8,6 +8,14 @@ use ct_version::Version;
 use std::marker::Model;
 use std::sync::Arc;
 
+// What the job at a place of its grade left.
+#[derive(Drop)]
+pub struct Left {
+    pub place: usize,
+    pub job: Job,
+    pub points: Option<Box<Ends>>,
+}
+
 /// The remainder of a job against the version that it was handed out with: nothing, or the two points where the walks
 /// of its ends come to. It shares the version.
 #[derive(Drop)]
@@ -33,7 +41,7 @@ impl Model for Remainder {
 impl Remainder {
     ghost use Rattle.std.specs.Arc.{arc_value};
     ghost use Rattle.ct_book.specs.Queues.{points_seen};
-    ghost use Rattle.ct_book.specs.Tasks.{IsHeld};
+    ghost use Rattle.ct_book.specs.Tasks.{IsHeld, left_at};
 
     // The remainder of the job at this place.
     pub(crate) fn new(
@@ -78,24 +86,17 @@ impl Remainder {
         }
     }
 
-    // The place of the job among the jobs of its grade.
-    pub(crate) fn place(&self) -> usize
-        ensures place { result ≡ self.now.place }
-        ensures held { IsHeld self.now }
-    {
-        self.place
-    }
-
-    // The points with their memory.
-    pub(crate) fn into_points(self) -> Option<Box<Ends>>
-        ensures { points_seen result ≡ self.points }
+    // The version, and what the job left against it.
+    pub(crate) fn into_parts(self) -> (Arc<Version>, Left)
+        ensures parts { left_at (arc_value result.0) result.1 ≡ self }
+        ensures held { IsHeld (left_at (arc_value result.0) result.1) }
     {
         let Remainder {
-            version: _,
-            place: _,
-            job: _,
+            version,
+            place,
+            job,
             points,
         } = self;
-        points
+        (version, Left { place, job, points })
     }
 }

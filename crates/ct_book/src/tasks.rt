@@ -9,6 +9,13 @@ use std::alloc::{AllocError, Global};
 use std::marker::Model;
 use std::sync::Arc;
 
+// A job with its place among the jobs of its grade.
+#[derive(Clone, Copy)]
+pub struct PlacedJob {
+    pub place: usize,
+    pub job: Job,
+}
+
 /// A job of the grade that a version opens, to be reduced against that version. Its grade is within the limit of a walk.
 #[derive(Drop)]
 pub struct Task {

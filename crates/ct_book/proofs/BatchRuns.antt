@@ -39,7 +39,7 @@ handed_waits b c j s =
     omega (arith, queue, length_push step.0 j)
 
 -- a version that doesn't cover a grade, by another book of the same version
-still_beyond : (b c : BookSeen) (g : ℕ) → edition_of c ≡ edition_of b → (IsCovered b g → ⊥) → IsCovered c g → ⊥
+pub still_beyond : (b c : BookSeen) (g : ℕ) → edition_of c ≡ edition_of b → (IsCovered b g → ⊥) → IsCovered c g → ⊥
 still_beyond b c g same beyond = subst (λ (e : Edition). Covers (level_of e.instance e.number) g → ⊥) (sym same) beyond
 
 -- one job more is handed out

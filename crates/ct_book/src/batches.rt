@@ -1,5 +1,6 @@
 //! Several jobs at once.
-ghost use Rattle.std.specs.Prelude.{◌≡◌, ◌<◌, ◌++◌, ◌∷◌, [], ℕ, length, map, reverse, All, IfOk, OnOk};
+ghost use Rattle.std.specs.Prelude.{◌≡◌, ◌<◌, ◌≤◌, ◌∷◌, [], ℕ, false, length, map, reverse, All, IfOk};
+ghost use Rattle.ct_vectors.specs.declared.limits.TheConstants.{GRADE_LIMIT};
 ghost use Rattle.ct_book.specs.Tasks.{IsTask, IsHeld, task_of, placed, left_at};
 ghost use Rattle.ct_book.specs.Books.{CountsRise, IsCovered, edition_of};
 ghost use Rattle.ct_book.specs.Batches.{AreHandedOut, AreCommitted};
@@ -46,6 +47,7 @@ pub struct Reduced {
 impl Model for Reduced {
     ghost use Rattle.std.specs.Prelude.{map, All};
     ghost use Rattle.std.specs.Arc.{arc_value};
+    ghost use Rattle.ct_vectors.specs.declared.limits.TheConstants.{GRADE_LIMIT};
     ghost use Rattle.ct_book.specs.Tasks.{IsHeld, left_at};
     ghost use Rattle.ct_book.specs.Batches.{ReducedSeen};
 
@@ -75,7 +77,7 @@ impl Batch {
         ensures reduced { IfOk result (λ r. map task_of r.remainders ≡ reverse (first ∷ map (placed first.version) self.old)) }
     {
         let (version, first) = first.into_parts();
-        let left = reduced(alloc, &version, first, &mut self.jobs);
+        let left = reduce_all(alloc, &version, first, &mut self.jobs);
         self.jobs.clear();
         Ok(Reduced {
             version,
@@ -86,7 +88,7 @@ impl Batch {
 
 // What the jobs leave, from the last to the first, and what this one leaves after them. It makes the room for as many jobs
 // again.
-fn reduced(
+fn reduce_all(
     alloc: Global,
     version: &Version,
     first: PlacedJob,
@@ -121,6 +123,7 @@ fn left_of_job(alloc: Global, version: &Version, at: PlacedJob) -> Result<Left, 
 pub fn hand_out_beside(book: &mut Book, jobs: &mut Vec<PlacedJob>)
     requires none { jobs.old.items ≡ [] }
     requires waits { 0 < length book.old.state.queue }
+    requires grade { (g : ℕ) × (g ≤ GRADE_LIMIT) × (IsCovered book.old g → ⊥) }
     ensures handed { (g : ℕ) → (IsCovered book.old g → ⊥) → (book.old.state.full ≡ false) → AreHandedOut book.old g (map (placed (edition_of book.old)) jobs.new.items) book.new }
     ensures tasks { All (λ p. IsTask (placed (edition_of book.old) p)) jobs.new.items }
 {

@@ -1,9 +1,0 @@
-use Rattle.std.proofs.Common.{vec_len}
-use Rattle.ct_book.proofs.BatchRuns.{HasReduced}
-use Rattle.ct_book.proofs.batches.reduced.Given as goal
-
-abbrev pub invariant-loop-job : goal.invariant-loop-job
-invariant-loop-job l = HasReduced l.version l.initial.jobs.items l.jobs.items l.left.items
-
-abbrev pub decreases-loop-job : goal.decreases-loop-job
-decreases-loop-job l = vec_len l.jobs

@@ -67,6 +67,14 @@ def partition(m, n, seed):
         if col not in cols: cols.append(col)
     return [[c[i] for c in cols] for i in range(m)]
 
+def planning(m, n, most, tenths, seed):
+    """n products by what each takes of m resources, up to `most`; so many of ten entries are 0"""
+    g = Lcg(seed)
+    A = [[0 if tenths and g.draw() % 10 < tenths else 1 + g.draw() % most for _ in range(n)] for _ in range(m)]
+    for j in range(n):
+        if not any(row[j] for row in A): A[g.draw() % m][j] = 1
+    return A
+
 def costs(n, seed, lo=1, hi=100):
     g = Lcg(seed); return [lo + g.draw() % (hi - lo + 1) for _ in range(n)]
 
@@ -81,13 +89,15 @@ def cut5x30():
     A = cutting([12, 19, 25, 34, 46], 120, 30, 5)
     return A, costs(30, 14), mixed(A, 4, 1000, 10)
 
-# By name: six columns of a knapsack, a transportation problem, cutting patterns, and set partition.
+# By name: six columns of a knapsack, a transportation problem, cutting patterns, set partition, and production plans.
 SETS = {
     "make0": lambda: make(0),
     "transp55": lambda: (transport(5, 5), costs(25, 1), mixed(transport(5, 5), 2, 1000, 60)),
     "cut5x20": cut5x20,
     "part8x40": lambda: (partition(8, 40, 21), costs(40, 22), mixed(partition(8, 40, 21), 23, 1000, 6)),
     "cut5x30": cut5x30,
+    "plan3x8": lambda: (planning(3, 8, 9, 0, 7), costs(8, 8), mixed(planning(3, 8, 9, 0, 7), 9, 1000, 20)),
+    "plan4x14": lambda: (planning(4, 14, 6, 5, 11), costs(14, 14), mixed(planning(4, 14, 6, 5, 11), 15, 1000, 16)),
 }
 
 def inst_text(A, c):

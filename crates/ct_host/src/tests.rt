@@ -1,5 +1,5 @@
 //! Hosts of coins of 3 and 5 at cost 2 and 3.
-ghost use Rattle.std.specs.Prelude.{◌≡◌, ◌≤◌, map};
+ghost use Rattle.std.specs.Prelude.{◌≡◌, ◌≤◌, [], map};
 ghost use Rattle.ct_vectors.specs.declared.limits.TheConstants.{GRADE_LIMIT, MOVE_LIMIT};
 ghost use Rattle.ct_instance.specs.Made.{indices};
 ghost use Rattle.ct_host.specs.Hosts.{IsOfHost, fresh_pass};
@@ -7,7 +7,7 @@ ghost use Rattle.ct_host.specs.Hosts.{IsOfHost, fresh_pass};
 mod refused;
 
 use crate::{Host, HostPass, OwnDesk};
-use ct_book::{Bench, Committed, Remainder, Step};
+use ct_book::{Batch, Bench, Committed, Remainder, Step};
 use ct_instance::Instance;
 use ct_version::{Desk, Finished, Pin};
 use std::alloc::Global;
@@ -262,4 +262,49 @@ fn benches_are_used_through_their_bound(rt: HostRuntime) {
     assert_eq!(rt; stored, Some(Committed::Stored { place: 0 }));
     assert_eq!(rt; resolves_at(&rt, alloc, &host, &mut first), None);
     assert_eq!(rt; entries_of_two(&rt, alloc, host, first, second), (2, 0, 2));
+}
+
+// A host of eight columns of one row, each of them a generator of grade 1, and its one pass.
+fn eight_columns(rt: &impl Abort, alloc: Global) -> (Host, HostPass)
+    ensures own { IsOfHost result.0 result.1 }
+{
+    let inst = Instance::new(alloc, 1, 8, &[1; 8], &[1, 2, 3, 4, 5, 6, 7, 8]);
+    let shared = Arc::new(alloc, inst.expect(rt, "an instance")).expect(rt, "room");
+    let (host, mut passes) = Host::open(alloc, shared, 4096, 1).expect(rt, "room");
+    let Some(pass) = passes.pop() else {
+        panic!(rt; "there is a pass")
+    };
+    (host, pass)
+}
+
+// Takes one step that hands out jobs, and takes in what they leave.
+fn taken_in<R: Abort + Wait>(
+    rt: &R,
+    alloc: Global,
+    host: &Host,
+    pass: &mut HostPass,
+    batch: &mut Batch,
+)
+    requires own { IsOfHost host.now pass.old }
+    requires none { batch.old ≡ [] }
+    ensures own { IsOfHost host.now pass.new }
+    ensures none { batch.new ≡ [] }
+{
+    let mut bench = host.bench(pass);
+    let Ok(Step::Reduce(first)) = bench.step_batch(rt, alloc, 1, batch) else {
+        panic!(rt; "no job")
+    };
+    let mut reduced = batch.reduce(alloc, first).expect(rt, "room");
+    bench.commit_all(rt, &mut reduced);
+}
+
+#[test]
+fn a_part_of_the_jobs_that_wait_is_handed_out_at_once(rt: HostRuntime) {
+    let alloc = rt.alloc();
+    let (host, mut pass) = eight_columns(&rt, alloc);
+    let mut batch = Batch::new(alloc);
+    for entries in [1, 3, 5, 6, 7, 8] {
+        taken_in(&rt, alloc, &host, &mut pass, &mut batch);
+        assert_eq!(rt; pass.steps(), entries);
+    }
 }

@@ -5,7 +5,7 @@
 
 The program is the one that `rt run` leaves in the out/ of its crate. Each set of bench/gen.py (all but cut5x30 if no NAME is
 given) is completed up to the greatest sum of a right-hand side: by one thread, and by 1, 2 and 4 workers of a host, in turn,
-three times, each in a process of its own; the fastest run of each counts. They must all come to the same moves and entries.
+eight times, each in a process of its own; the fastest run of each counts. They must all come to the same moves and entries.
 
 The first table has the times on the clock, as ratios, and the processor time of a job. The second has the calls of the book as
 one thread makes them, each timed: `next`, `commit` and `publish` are what is done under a host's lock, and `reduce` is done
@@ -19,7 +19,7 @@ import tempfile
 sys.dont_write_bytecode = True
 import gen
 
-ROUNDS = 3
+ROUNDS = 8
 WAYS = ("one", "1", "2", "4")
 LOCKED = ("next", "commit", "publish")
 

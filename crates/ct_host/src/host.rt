@@ -84,7 +84,8 @@ impl Host {
 
     /// Takes steps, reduces what they hand out while it holds no lock, and commits, until a version covers the target or
     /// the limit on the number of moves is found to stand before it. Each version that it gets it puts into the cell. It
-    /// may wait for others. After want of memory the steps that were made stand.
+    /// may wait for others. It takes the memory of a `Batch` and of what its jobs leave, beside that of publishing; after
+    /// want of memory the steps that were made stand.
     pub fn help<R: Wait>(
         &self,
         rt: &R,

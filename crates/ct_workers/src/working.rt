@@ -12,8 +12,9 @@ use std::sync::Wait;
 /// Takes steps of the bench until a version covers the target, or the limit on the number of moves is found to stand
 /// before it; what is handed out it reduces and commits. Before its step t, from 0, it passes the gate as `who`.
 ///
-/// It holds nothing of the bench while it reduces. After want of memory the steps that were made stand; a job that was
-/// handed out and isn't committed waits for another worker. It may wait for others.
+/// It holds nothing of the bench while it reduces. It takes the memory of a `Batch` and of what its jobs leave, beside that
+/// of publishing. After want of memory the steps that were made stand; jobs that were handed out and aren't taken in wait
+/// for another worker. It may wait for others.
 pub fn work<R: Wait, B: Bench, G: Gate>(
     rt: &R,
     alloc: Global,

@@ -9,7 +9,7 @@ use smallvec::SmallVec;
 use std::alloc::{AllocError, Global};
 use std::marker::Model;
 
-/// A vector of natural numbers below 2^64, seen as its list. Its width is 1 to 80 and never changes.
+/// A vector of natural numbers below 2^64, seen as its list. Its width is 1 to 80, and only `truncate` changes it.
 ///
 /// A point of at most 16 coordinates takes no memory of its own; a wider one takes 8 bytes a coordinate. Each call
 /// is linear in the width. Calls that take another point take one of the same width.
@@ -93,6 +93,15 @@ impl Point {
         ensures { self.new ≡ slice_set self.old i v }
     {
         self.places.as_mut_slice()[i] = v;
+    }
+
+    /// Keeps the first coordinates, as many as are said, and lets the others go.
+    pub fn truncate(&mut self, width: usize)
+        requires some { 1 ≤ width }
+        requires limit { width ≤ length self.old }
+        ensures { self.new ≡ take width self.old }
+    {
+        self.places.truncate(width);
     }
 
     /// The sum.

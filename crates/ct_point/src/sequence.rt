@@ -23,6 +23,13 @@ impl<T> Seq<T> {
         Seq { items: v }
     }
 
+    /// Hands back the vector with its memory.
+    pub fn into_vec(self) -> Vec<T>
+        ensures { result.items ≡ self }
+    {
+        self.items
+    }
+
     /// The items in order.
     pub fn as_slice(&self) -> &[T]
         ensures { result.now ≡ self.now }

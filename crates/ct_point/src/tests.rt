@@ -51,8 +51,12 @@ fn a_wide_point(rt: HostRuntime) -> Result<(), Fail> {
     let mut coordinates = [0; 80];
     coordinates[79] = u64::MAX;
     let point = Point::from_slice(alloc, &coordinates)?;
-    let copy = point.copy(alloc)?;
+    let mut copy = point.copy(alloc)?;
     assert!(rt; copy.as_slice() == coordinates.as_slice());
+    copy.truncate(79);
+    assert!(rt; copy.as_slice() == &coordinates[..79]);
+    copy.truncate(1);
+    assert!(rt; copy.as_slice() == [0].as_slice());
     Ok(())
 }
 
@@ -60,5 +64,7 @@ fn a_wide_point(rt: HostRuntime) -> Result<(), Fail> {
 fn a_sequence_keeps_its_items(rt: HostRuntime) -> Result<(), Fail> {
     let sequence = Seq::from_vec([3u64, 1, 2].to_vec(rt.alloc())?);
     assert!(rt; sequence.as_slice() == [3, 1, 2].as_slice());
+    let items = sequence.into_vec();
+    assert!(rt; items.as_slice() == [3, 1, 2].as_slice());
     Ok(())
 }

@@ -2,11 +2,11 @@
 use Rattle.std.proofs.Common.{◌≡◌, ℕ, ◌*◌, ◌/◌, None, Some, sym, ap, ◌∙◌, arith}
 use Rattle.turn_cell.specs.Sight.{CellSight, after_take}
 use Rattle.count_lock.specs.Sight.{LockSight}
-use Rattle.ct_version.specs.Desks.{latest}
+use Rattle.ct_vectors.specs.Words.{latest}
 use Rattle.ct_book.specs.Books.{BookSeen}
 use Rattle.ct_host.specs.Values.{PlacedVersion}
 use Rattle.ct_host.specs.Hosts.{PassSeen, pass_in, after_pin}
-use Rattle.ct_host.proofs.Lists.{latest_snoc}
+use Rattle.ct_vectors.proofs.Words.{latest_snoc}
 
 pub word_found : (cell after : CellSight PlacedVersion) (word : ℕ) → after ≡ after_take cell word → latest after.words ≡ word
 word_found cell after word is = ap (λ (c : CellSight PlacedVersion). latest c.words) is ∙ latest_snoc cell.words word

@@ -6,7 +6,7 @@ use Rattle.count_lock.specs.Sight.{LockSight}
 use Rattle.ct_version.specs.declared.pins.Helped.{Helped}
 use Rattle.ct_version.specs.declared.pins.Stop.{Stop}
 use Rattle.ct_version.specs.declared.pins.Stop.TheVariants.{Full as Ended, Memory}
-use Rattle.ct_version.specs.Desks.{Extends}
+use Rattle.ct_vectors.specs.Words.{Extends}
 use Rattle.ct_book.specs.declared.outcomes.Step.{Step}
 use Rattle.ct_book.specs.declared.tasks.PlacedJob.{PlacedJob}
 use Rattle.ct_book.specs.declared.outcomes.Step.TheVariants.{Reduce, Published, Reached, Full}

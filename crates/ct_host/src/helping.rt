@@ -1,7 +1,8 @@
 //! Helping until a version covers a grade.
 ghost use Rattle.std.specs.Prelude.{◌≡◌, ◌≤◌, IfOk, IfErr};
 ghost use Rattle.ct_vectors.specs.declared.limits.TheConstants.{GRADE_LIMIT};
-ghost use Rattle.ct_version.specs.Desks.{Extends, IsHelp, IsStop};
+ghost use Rattle.ct_version.specs.Desks.{IsHelp, IsStop};
+ghost use Rattle.ct_vectors.specs.Words.{Extends};
 ghost use Rattle.ct_book.specs.Benches.{desk_place};
 ghost use Rattle.ct_host.specs.Hosts.{IsOfHost};
 ghost use Rattle.ct_host.specs.Steps.{HasSeenHelp, HasSeenStop, Helps};

@@ -40,7 +40,8 @@ impl Host {
     ghost use Rattle.std.specs.Arc.{arc_value};
     ghost use Rattle.ct_vectors.specs.declared.limits.TheConstants.{GRADE_LIMIT, MOVE_LIMIT};
     ghost use Rattle.ct_instance.specs.Made.{indices};
-    ghost use Rattle.ct_version.specs.Desks.{IsPin, IsHelp, IsStop, latest};
+    ghost use Rattle.ct_version.specs.Desks.{IsPin, IsHelp, IsStop};
+    ghost use Rattle.ct_vectors.specs.Words.{latest};
     ghost use Rattle.ct_book.specs.Benches.{desk_place};
     ghost use Rattle.ct_host.specs.Hosts.{IsOfHost, after_pin, fresh_pass};
     ghost use Rattle.ct_host.specs.Steps.{Helps, HasSeenHelp, HasSeenStop};

@@ -1,7 +1,8 @@
 //! Looking into the cell, and putting a version there.
 ghost use Rattle.std.specs.Prelude.{◌≡◌, ◌≤◌, ◌++◌, ◌∷◌, [], OnOk};
 ghost use Rattle.std.specs.Arc.{arc_value};
-ghost use Rattle.ct_version.specs.Desks.{IsOfPlace, IsPin, Extends, latest};
+ghost use Rattle.ct_version.specs.Desks.{IsOfPlace, IsPin};
+ghost use Rattle.ct_vectors.specs.Words.{Extends, latest};
 ghost use Rattle.ct_book.specs.Benches.{desk_place};
 ghost use Rattle.ct_host.specs.Hosts.{IsOfHost, after_pin};
 

@@ -3,7 +3,7 @@ ghost use Rattle.std.specs.Prelude.{◌≡◌, ◌+◌, ◌≤◌, ◌++◌, ◌
 ghost use Rattle.ct_vectors.specs.declared.limits.TheConstants.{GRADE_LIMIT};
 ghost use Rattle.count_lock.specs.Pairs.{first_number, first_count};
 ghost use Rattle.count_lock.specs.Sight.{IsOfLock};
-ghost use Rattle.ct_version.specs.Desks.{Extends};
+ghost use Rattle.ct_vectors.specs.Words.{Extends};
 ghost use Rattle.ct_book.specs.Books.{IsRiseOf, rise_of};
 ghost use Rattle.ct_book.specs.Benches.{IsGiven};
 ghost use Rattle.ct_host.specs.Values.{bench_place};

@@ -1,6 +1,6 @@
 //! A desk that has a book to itself.
 ghost use Rattle.std.specs.Prelude.{◌≡◌, ◌<◌, ◌++◌, [], ◌∷◌};
-ghost use Rattle.ct_version.specs.Desks.{latest};
+ghost use Rattle.ct_vectors.specs.Words.{latest};
 
 use ct_book::Book;
 use ct_version::{Desk, Helped, Pin, Stop};

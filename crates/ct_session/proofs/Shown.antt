@@ -14,7 +14,8 @@ use Rattle.ct_input.specs.declared.script.Request.TheVariants.{Ask, Solve}
 use Rattle.ct_version.specs.declared.answers.Answered.{Answered}
 use Rattle.ct_version.specs.Editions.{Edition}
 use Rattle.ct_version.specs.Answers.{IsNotYet, IsAnswered}
-use Rattle.ct_version.specs.Desks.{Place, IsOfPlace, raised, Extends}
+use Rattle.ct_version.specs.Desks.{Place, IsOfPlace, raised}
+use Rattle.ct_vectors.specs.Words.{Extends}
 use Rattle.ct_levels.proofs.Levels.{levels_rise}
 use Rattle.ct_levels.proofs.Covering.{first_version_is}
 use Rattle.ct_levels.proofs.Reach.{reach_when_full, reach_within}

@@ -16,7 +16,8 @@ impl<D: Desk + Drop> Session<D> {
     ghost use Rattle.ct_vectors.specs.declared.limits.TheConstants.{RIGHT_LIMIT};
     ghost use Rattle.ct_instance.specs.Instance.{IsRight};
     ghost use Rattle.ct_input.specs.Script.{IsRequest};
-    ghost use Rattle.ct_version.specs.Desks.{Extends, IsOfPlace};
+    ghost use Rattle.ct_version.specs.Desks.{IsOfPlace};
+    ghost use Rattle.ct_vectors.specs.Words.{Extends};
     ghost use Rattle.ct_session.specs.Sessions.{Rises};
     ghost use Rattle.ct_session.specs.Shown.{AreShown};
 

@@ -46,7 +46,8 @@ impl<D: Desk + Drop> Session<D> {
     ghost use Rattle.ct_instance.specs.Versions.{Covers, level_of};
     ghost use Rattle.ct_version.specs.Editions.{IsEdition, level_seen};
     ghost use Rattle.ct_version.specs.Answers.{kind_of, IsNotYet, IsAnswered};
-    ghost use Rattle.ct_version.specs.Desks.{latest, Extends, IsOfPlace, IsFullMark};
+    ghost use Rattle.ct_version.specs.Desks.{IsOfPlace, IsFullMark};
+    ghost use Rattle.ct_vectors.specs.Words.{latest, Extends};
     ghost use Rattle.ct_session.specs.Sessions.{IsRepinned, IsOpenTo, IsFullAt};
 
     /// A session that has this version pinned. It takes the memory of one point.

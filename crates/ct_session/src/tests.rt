@@ -1,7 +1,7 @@
 //! Sessions over a desk whose newest version is version 0 of two coins of 3 and 5 at cost 2 and 3, whose level is 2.
 ghost use Rattle.std.specs.Prelude.{◌≡◌, ◌++◌, [], ◌∷◌};
 ghost use Rattle.std.specs.Arc.{arc_value};
-ghost use Rattle.ct_version.specs.Desks.{latest};
+ghost use Rattle.ct_vectors.specs.Words.{latest};
 
 use crate::{Line, Session, SolveStop};
 use ct_input::Request;

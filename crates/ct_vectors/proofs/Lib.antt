@@ -1,3 +1,4 @@
 pub mod Sums
 pub mod Places
 pub mod Divisors
+pub mod Words

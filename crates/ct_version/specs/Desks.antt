@@ -25,16 +25,6 @@ pub record IsOfPlace (p : Place) (v : Edition) : Type 0 where
 
 -- ---- pins
 
--- the word that was found last
-abbrev pub latest : List ℕ → ℕ
-latest [] = 0
-latest (w ∷ []) = w
-latest (w ∷ x ∷ ws) = latest (x ∷ ws)
-
--- the old words, and then more
-abbrev pub Extends : List ℕ → List ℕ → Type 0
-Extends old new = new ≡ old ++ drop (length old) new
-
 -- what a pin answers by the word that it found, which is twice a version's number, or odd where another has the turn.
 -- Want of memory comes only in place of a newer version.
 abbrev pub IsPin : Place → ℕ → ℕ → Pin → Type 0

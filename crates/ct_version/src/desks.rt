@@ -1,7 +1,8 @@
 //! Where a session gets its versions.
 ghost use Rattle.std.specs.Prelude.{◌≡◌, ◌≤◌, ◌++◌, [], ◌∷◌, ℕ, List, IfOk, IfErr};
 ghost use Rattle.ct_vectors.specs.declared.limits.TheConstants.{GRADE_LIMIT};
-ghost use Rattle.ct_version.specs.Desks.{Place, latest, Extends, IsPin, refused_after, IsHelp, IsStop};
+ghost use Rattle.ct_version.specs.Desks.{Place, IsPin, refused_after, IsHelp, IsStop};
+ghost use Rattle.ct_vectors.specs.Words.{latest, Extends};
 
 use crate::pins::{Helped, Pin, Stop};
 use std::alloc::Global;

@@ -20,21 +20,11 @@ pub record CellSight (V : Type 0) : Type 0 where
 abbrev pub IsOfCell : {V : Type 0} → CellPlace V → CellSight V → Type 0
 IsOfCell place pass = (pass.cell ≡ place.cell) × (pass.first ≡ Some place.first)
 
--- the word that was found last
-abbrev pub latest : List ℕ → ℕ
-latest [] = 0
-latest (w ∷ []) = w
-latest (w ∷ x ∷ ws) = latest (x ∷ ws)
-
 abbrev pub IsEven : ℕ → Type 0
 IsEven w = w % 2 ≡ 0
 
 abbrev pub IsOdd : ℕ → Type 0
 IsOdd w = w % 2 ≡ 1
-
--- the old words, and then more
-abbrev pub Extends : List ℕ → List ℕ → Type 0
-Extends old new = new ≡ old ++ drop (length old) new
 
 -- a pass after one take that found this word, where it does not keep the turn
 abbrev pub after_take : {V : Type 0} → CellSight V → ℕ → CellSight V

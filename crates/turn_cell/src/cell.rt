@@ -26,7 +26,8 @@ impl<V: Numbered + Drop> Model for TurnCell<V> {
 
 impl<V: Numbered + Drop> TurnCell<V> {
     ghost use Rattle.std.specs.Prelude.{◌≡◌, ◌+◌, ◌*◌, ◌/◌, ◌^◌, ◌<◌, ◌≤◌, [], max, ℕ, None, Some, IfOk, IfErr};
-    ghost use Rattle.turn_cell.specs.Sight.{IsOfCell, IsOdd, IsEven, latest, Extends, after_take};
+    ghost use Rattle.turn_cell.specs.Sight.{IsOfCell, IsOdd, IsEven, after_take};
+    ghost use Rattle.ct_vectors.specs.Words.{latest, Extends};
     ghost use Rattle.turn_cell.specs.Stops.{Stops};
 
     /// A cell with this value at home, and its first pass. The cell keeps the value's name.
@@ -112,7 +113,7 @@ impl<V: Numbered + Drop> TurnCell<V> {
     /// Shares the value at home: `take`, `share`, `give`. It waits for nobody, and gives the turn back where the
     /// sharing is refused too. `Busy` comes exactly where the one take found an odd word, `Memory` only where it
     /// found an even one.
-    #[tactic(auto, using(crate::proofs::Words::latest_snoc))]
+    #[tactic(auto, using(ct_vectors::proofs::Words::latest_snoc))]
     pub fn try_read(&self, pass: &mut Pass<V>) -> Result<V, ReadStop>
         requires own { IsOfCell self.now pass.old }
         requires idle { pass.old.held ≡ None }

@@ -1,5 +1,6 @@
 use Rattle.std.proofs.Common.{◌≡◌, ℕ, ◌*◌, ◌%◌, sym, ap, subst, ◌∙◌}
-use Rattle.ct_version.specs.Desks.{Place, IsPin, latest}
+use Rattle.ct_version.specs.Desks.{Place, IsPin}
+use Rattle.ct_vectors.specs.Words.{latest}
 use Rattle.ct_book.specs.Benches.{desk_place}
 use Rattle.ct_host.specs.Values.{PlacedVersion}
 use Rattle.ct_host.specs.Hosts.{HostSeen}

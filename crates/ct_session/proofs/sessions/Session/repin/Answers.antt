@@ -1,5 +1,5 @@
 use Rattle.std.proofs.Common.{rules, ◌≡◌}
-use Rattle.ct_version.specs.Desks.{latest}
+use Rattle.ct_vectors.specs.Words.{latest}
 use Rattle.ct_session.proofs.Pinned.{refused_pin_keeps}
 use Rattle.ct_session.proofs.sessions.Session.repin.Goals as goal
 

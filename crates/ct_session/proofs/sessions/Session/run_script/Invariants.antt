@@ -1,5 +1,5 @@
 use Rattle.std.proofs.Common.{◌≡◌, ◌≤◌, length, drop, take}
-use Rattle.ct_version.specs.Desks.{Extends}
+use Rattle.ct_vectors.specs.Words.{Extends}
 use Rattle.ct_session.specs.Sessions.{Rises}
 use Rattle.ct_session.specs.Shown.{AreShown}
 use Rattle.ct_session.proofs.sessions.Session.run_script.Given as goal

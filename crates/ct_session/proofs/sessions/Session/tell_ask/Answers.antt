@@ -1,6 +1,6 @@
 use Rattle.std.proofs.Common.{rules}
 use Rattle.ct_version.specs.Answers.{IsAnswered}
-use Rattle.ct_version.specs.Desks.{latest}
+use Rattle.ct_vectors.specs.Words.{latest}
 use Rattle.ct_session.specs.declared.lines.Line.TheVariants.{NotYet}
 use Rattle.ct_session.proofs.Shown.{ask_answered, ask_not_yet, ask_shown}
 use Rattle.ct_session.proofs.sessions.Session.tell_ask.Goals as goal

@@ -1,6 +1,6 @@
 use Rattle.std.proofs.Common.{◌*◌, ap, sym, ◌∙◌}
-use Rattle.turn_cell.specs.Sight.{latest}
-use Rattle.turn_cell.proofs.Words.{latest_snoc, extends_snoc}
+use Rattle.ct_vectors.specs.Words.{latest}
+use Rattle.ct_vectors.proofs.Words.{latest_snoc, extends_snoc}
 use Rattle.turn_cell.proofs.cell.TurnCell.take_at_last.Goals as goal
 
 pub returns-in-Ok-clause-tries : goal.returns-in-Ok-clause-tries

@@ -1,5 +1,5 @@
 use Rattle.std.proofs.Common.{◌≡◌, ◌≤◌}
-use Rattle.turn_cell.specs.Sight.{Extends}
+use Rattle.ct_vectors.specs.Words.{Extends}
 use Rattle.turn_cell.proofs.cell.TurnCell.take_at_last.Given as goal
 
 abbrev pub invariant-loop : goal.invariant-loop

@@ -12,7 +12,7 @@ use Rattle.count_lock.specs.declared.note.Note.{Note}
 use Rattle.count_lock.specs.Pairs.{Agree, times, HasEach, GrowsAt, first_number}
 use Rattle.count_lock.specs.Count.{Knows, IsFree, IsTaken, CountRule, first_note, spent_note, worth, total, once}
 use Rattle.count_lock.specs.Told.{Took, Released, wins, releases, keeps_most, gives_last, takes_in}
-use Rattle.count_lock.proofs.Totals.{total_set, total_snoc, total_one, total_two}
+use Rattle.count_lock.proofs.Totals.{total_set, total_snoc, total_one, total_two, once_small, once_below, once_is, once_not, unspent_worth, total_stays}
 use Rattle.count_lock.proofs.PairLists.{times_append, times_first, agree_append, agree_others, times_recounted, agree_recounted, length_recounted, times_parted, agree_but_last, agree_last, some_last, some_but_last, times_numbered, times_above, length_numbered, agree_opening}
 
 set_at : {A : Type 0} (l : List A) (i : ℕ) (a b : A) → get_elem? l i ≡ some a → get_elem? (set l i b) i ≡ some b
@@ -38,27 +38,6 @@ some_or d (Some v) = v
 abbrev in_hand_or : {V : Type 0} → V → List (ℕ × Option V) → V
 in_hand_or d [] = d
 in_hand_or d (x ∷ xs) = some_or d x.1
-
--- each number below the number of passes counts once, and no other
-once_small : (p n : ℕ) → once p n ≤ 1
-once_small p n = grind (arith, nat_tests)
-
-once_below : (p n : ℕ) → 1 ≤ once p n → p < n
-once_below p n stands = grind (arith, nat_tests)
-
-once_is : (p n : ℕ) → p < n → once p n ≡ 1
-once_is p n low = grind (arith, nat_tests)
-
-once_not : (p n : ℕ) → ¬ (p < n) → once p n ≡ 0
-once_not p n high = grind (arith, nat_tests)
-
-module _ {V : Type 0} where
-  unspent_worth : (p : ℕ) (view : Note V) → view.spent ≡ false → worth p view ≡ times p view.pairs
-  unspent_worth p view unspent = ap (λ b. cond b 0 (times p view.pairs)) unspent
-
-  -- where a view keeps the numbers of its pairs, the totals stay
-  total_stays : (p : ℕ) (views : List (Note V)) (id : ℕ) (view w : Note V) → get_elem? views id ≡ some view → worth p w ≡ worth p view → total (worth p) (set views id w) ≡ total (worth p) views
-  total_stays p views id view w at same = let moved = total_set (worth p) views id view w at in omega arith
 
 module _ {V N : Type 0} (name_of : V → N) (counts_of shows : V → List ℕ) (opened : V) (passes : ℕ) where
   abbrev St : Type 0

@@ -3,19 +3,17 @@ use Rattle.std.proofs.Common.{ℕ, ◌+◌, ◌≤◌, ◌<◌, ◌≡◌, ◌�
 use Rattle.std.proofs.lemmas.Bool.{lt-leb, leb-false}
 use Rattle.std.proofs.lemmas.List.{map-append}
 use Rattle.std.proofs.lemmas.List.Sorted.{IsPermutation-filter_both, IsPermutation-map, IsPermutation-append_left, IsPermutation-trans, IsPermutation-sym, Contains-permutation}
-use Rattle.ct_vectors.specs.Vectors.{lcm}
 use Rattle.ct_instance.specs.declared.jobs.Job.{Job}
 use Rattle.ct_instance.specs.declared.jobs.Job.TheVariants.{Generator, Pair}
-use Rattle.ct_instance.specs.Instance.{Problem, grade_of}
+use Rattle.ct_instance.specs.Instance.{Problem}
 use Rattle.ct_instance.specs.TestSet.{Binomial}
-use Rattle.ct_instance.specs.Jobs.{IsJob, JobComesBefore, the_move, job_grade_of, all_jobs}
+use Rattle.ct_instance.specs.Jobs.{IsJob, JobComesBefore, job_grade_of, all_jobs}
 use Rattle.ct_instance.specs.Versions.{least_above}
 use Rattle.ct_instance.proofs.Lists.{Contains-here, Contains-there, Contains-filter, filter_gives}
 use Rattle.ct_instance.proofs.Ordered.{InOrder-filter, InOrder-unique}
 use Rattle.ct_instance.proofs.Above.{least_above-same}
 use Rattle.ct_instance.proofs.JobsList.{jobs_listed, jobs_in_order}
-use Rattle.ct_walk.proofs.Ends.{the_move_is, the_move_at}
-use Rattle.ct_walk.proofs.Steps.{move_at-append}
+use Rattle.ct_walk.proofs.Ends.{grade_stays}
 use Rattle.ct_jobs.specs.declared.graded.GradedJob.{GradedJob}
 use Rattle.ct_jobs.specs.GradedJobs.{with_grade, graded_jobs, AreJobsOf, is_pair_from, graded_pairs_from, next_grade}
 use Rattle.ct_jobs.proofs.JobOrder.{before_one_way}
@@ -42,14 +40,14 @@ before_chain (Pair a b) (Pair c d) (Pair e f) h k = both h k
 
 -- ---- the jobs of the shorter list
 
-abbrev is_old : List Binomial → Job → Bool
+abbrev pub is_old : List Binomial → Job → Bool
 is_old ms j = not (is_pair_from (length ms + 1) j)
 
 not_not : (b : Bool) → b ≡ not (not b)
 not_not true = refl
 not_not false = refl
 
-old_is_job : (i : Problem) (ms ns : List Binomial) (j : Job) → IsJob i (ms ++ ns) j → is_old ms j ≡ true → IsJob i ms j
+pub old_is_job : (i : Problem) (ms ns : List Binomial) (j : Job) → IsJob i (ms ++ ns) j → is_old ms j ≡ true → IsJob i ms j
 old_is_job i ms ns (Generator j) h e = h
 old_is_job i ms ns (Pair a b) h e = (h.0, h.1, last (nat_le (length ms + 1) b) refl e)
   where
@@ -79,17 +77,6 @@ old_jobs i ms ns =
         Contains-filter (is_old ms) (all_jobs i (ms ++ ns)) j ((((jobs_listed i (ms ++ ns)).0 j).1) f.0) f.1
 
 -- ---- their grades stay
-
-the_move_stays : (ms ns : List Binomial) (k : ℕ) → 1 ≤ k → k ≤ length ms → the_move (ms ++ ns) k ≡ the_move ms k
-the_move_stays ms ns k l h = the_move_is (ms ++ ns) k (the_move ms k) (move_at-append ms ns k (the_move ms k) (the_move_at ms k l h))
-
-grade_stays : (i : Problem) (ms ns : List Binomial) (j : Job) → IsJob i ms j → job_grade_of i (ms ++ ns) j ≡ job_grade_of i ms j
-grade_stays i ms ns (Generator j) h = refl
-grade_stays i ms ns (Pair a b) h =
-    let first : 1 ≤ a = h.0 in
-    let between : a < b = h.1 in
-    let last : b ≤ length ms = h.2 in
-    ap₂ (λ (x y : Binomial). grade_of i.columns (lcm x.head y.head)) (the_move_stays ms ns a first (omega arith)) (the_move_stays ms ns b (omega arith) last)
 
 map_same : {X Y : Type 0} (f g : X → Y) (xs : List X) → ((x : X) → Contains xs x → f x ≡ g x) → map f xs ≡ map g xs
 map_same f g [] h = refl

@@ -1,5 +1,5 @@
 -- The ends of a job: both are points of the job's degree.
-use Rattle.std.proofs.Common.{ℕ, ◌+◌, ◌-◌, ◌≤◌, ◌<◌, ◌≡◌, Some, List, [], length, get_or, sym, subst, ap, ap₂, ◌∙◌, arith, zero, suc, length-append}
+use Rattle.std.proofs.Common.{ℕ, ◌+◌, ◌-◌, ◌≤◌, ◌<◌, ◌≡◌, Some, List, [], ◌++◌, length, get_or, refl, sym, subst, ap, ap₂, ◌∙◌, arith, zero, suc, length-append}
 use Rattle.std.specs.Option.{unwrap_or}
 use Rattle.std.proofs.lemmas.Option.{unwrap_or-slice_get, slice_get-get_or}
 use Rattle.std.proofs.lemmas.List.Elements.{All-get_or}
@@ -8,14 +8,14 @@ use Rattle.ct_vectors.proofs.Sums.{length-add_same, length-subtract, length-unit
 use Rattle.ct_vectors.proofs.Divisors.{Divides-lcm, Divides-lcm_right, length-lcm, add-subtract}
 use Rattle.ct_instance.specs.declared.jobs.Job.{Job}
 use Rattle.ct_instance.specs.declared.jobs.Job.TheVariants.{Generator, Pair}
-use Rattle.ct_instance.specs.Instance.{Problem, IsColumn, IsInstance, IsPoint, column_count, degree_of, unit_of}
+use Rattle.ct_instance.specs.Instance.{Problem, IsColumn, IsInstance, IsPoint, column_count, degree_of, grade_of, unit_of}
 use Rattle.ct_instance.specs.Fiber.{IsInFiber}
 use Rattle.ct_instance.specs.TestSet.{Binomial}
 use Rattle.ct_instance.specs.Walk.{move_at, IsMove, AreMoves}
-use Rattle.ct_instance.specs.Jobs.{the_move, the_column, IsJob, job_degree_of, first_end_of, second_end_of}
+use Rattle.ct_instance.specs.Jobs.{the_move, the_column, IsJob, job_degree_of, job_grade_of, first_end_of, second_end_of}
 use Rattle.ct_instance.proofs.Degree.{columns, degree_of_swap, degree-unit}
 use Rattle.ct_instance.proofs.Fiber.{start_in_fiber}
-use Rattle.ct_walk.proofs.Steps.{move_is}
+use Rattle.ct_walk.proofs.Steps.{move_is, move_at-append}
 
 pub the_move_is : (ms : List Binomial) (k : ℕ) (m : Binomial) → move_at ms k ≡ Some m → the_move ms k ≡ m
 the_move_is ms k m e = ap (λ o. unwrap_or o (record { head = []; tail = [] })) e
@@ -24,6 +24,18 @@ pub the_move_at : (ms : List Binomial) (k : ℕ) → 1 ≤ k → k ≤ length ms
 the_move_at ms zero l h = absurd (omega arith)
 the_move_at ms (suc k) l h =
     slice_get-get_or ms k (record { head = []; tail = [] }) (omega arith) ∙ ap Some (sym (unwrap_or-slice_get ms k (record { head = []; tail = [] })))
+
+-- moves that are added at the end leave the moves and the grades of the jobs before as they are
+pub the_move_stays : (ms ns : List Binomial) (k : ℕ) → 1 ≤ k → k ≤ length ms → the_move (ms ++ ns) k ≡ the_move ms k
+the_move_stays ms ns k l h = the_move_is (ms ++ ns) k (the_move ms k) (move_at-append ms ns k (the_move ms k) (the_move_at ms k l h))
+
+pub grade_stays : (i : Problem) (ms ns : List Binomial) (j : Job) → IsJob i ms j → job_grade_of i (ms ++ ns) j ≡ job_grade_of i ms j
+grade_stays i ms ns (Generator j) h = refl
+grade_stays i ms ns (Pair a b) h =
+    let first : 1 ≤ a = h.0 in
+    let between : a < b = h.1 in
+    let last : b ≤ length ms = h.2 in
+    ap₂ (λ (x y : Binomial). grade_of i.columns (lcm x.head y.head)) (the_move_stays ms ns a first (omega arith)) (the_move_stays ms ns b (omega arith) last)
 
 pub the_column_is : (i : Problem) (j : ℕ) → the_column i (suc j) ≡ get_or i.columns j []
 the_column_is i j = unwrap_or-slice_get i.columns j []

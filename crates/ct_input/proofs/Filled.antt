@@ -8,10 +8,10 @@ use Rattle.ct_input.specs.declared.script.Request.TheVariants.{Ask, Solve}
 use Rattle.ct_input.specs.declared.script.Phase.{Phase}
 use Rattle.ct_input.specs.declared.script.Script.{Script}
 use Rattle.ct_input.specs.declared.draft.Draft.{Draft}
-use Rattle.ct_input.specs.Grammar.{Grammar, done, nothing, word, number, signed, fork, barred, part, numbers, signeds, if_some, upto}
+use Rattle.ct_input.specs.Grammar.{Grammar, done, nothing, word, number, signed, fork, barred, only, part, numbers, signeds, if_some, upto}
 use Rattle.ct_input.specs.InstanceText.{more_rows, cost_rows, instance_text}
 use Rattle.ct_input.specs.SessionText.{request, no_request, requests, session, no_session, sessions, phase, no_phase, phases, request_count, session_text}
-use Rattle.ct_input.proofs.FirstFaults.{Fills, opens, Closes, Needs}
+use Rattle.ct_input.proofs.Filling.{Fills, opens, Closes, Needs}
 
 false_is_not_true : false ≡ true → ⊥
 false_is_not_true e = cc
@@ -27,6 +27,7 @@ opens_part after mid (number low high next) f h follows = refl
 opens_part after mid (signed size next) f h follows = refl
 opens_part after mid (fork w first second) f h follows = opens_part after mid second f h.1 follows
 opens_part after mid (barred w next) f h follows = opens_part after mid next f h.0 follows
+opens_part after mid (only w next) f h follows = refl
 
 fills_part : {A B : Type 0} (whole : Bool) (after mid : List ℕ) (g : Grammar A) (f : A → Grammar B) → Fills false mid g → ((x : A) → Fills whole after (f x)) → ((x : A) → opens after (f x) ≡ mid) → Fills whole after (part g f)
 unfolding part opens Fills
@@ -39,6 +40,7 @@ fills_part whole after mid (fork w first second) f h more follows =
     (fills_part whole after mid first f h.0 more follows, fills_part whole after mid second f h.1 more follows, ap (λ v. bytes_eq v w) (opens_part after mid second f h.1 follows) ∙ h.2)
 fills_part whole after mid (barred w next) f h more follows =
     (fills_part whole after mid next f h.0 more follows, ap (λ v. bytes_eq v w) (opens_part after mid next f h.0 follows) ∙ h.1)
+fills_part whole after mid (only w next) f h more follows = (h.0, fills_part whole after mid next f h.1 more follows)
 
 -- what follows a part closes it
 closes_part : {A B : Type 0} (mid : List ℕ) (g : Grammar A) (f : A → Grammar B) → Fills false mid g → ((x : A) → Closes (f x) × Needs (f x)) → Closes (part g f) × Needs (part g f)
@@ -52,6 +54,7 @@ closes_part mid (fork w first second) f h more =
     let rest = closes_part mid second f h.1 more in
     (((closes_part mid first f h.0 more).0, rest.0), rest.1)
 closes_part mid (barred w next) f h more = let rest = closes_part mid next f h.0 more in (rest, rest.1)
+closes_part mid (only w next) f h more = ((closes_part mid next f h.1 more).0, tt)
 
 -- ---- lists of numbers
 

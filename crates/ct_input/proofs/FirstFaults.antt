@@ -1,144 +1,21 @@
 -- The first fault of a text whose places can each be filled.
-use Rattle.std.proofs.Common.{◌≡◌, ℕ, ◌≤◌, Bool, true, false, cond, List, [], ◌∷◌, ◌++◌, Result, Ok, Err, ℤ, pos, refl, sym, ap, subst, ◌∙◌, inl, inr, leb}
-use Rattle.std.specs.Prelude.{is_ok, IsTrue}
+use Rattle.std.proofs.Common.{◌≡◌, ℕ, Bool, true, false, cond, List, [], ◌∷◌, ◌++◌, Result, Ok, Err, ℤ, refl, sym, ap, subst, ◌∙◌, inl, inr, leb}
+use Rattle.std.specs.Prelude.{is_ok}
 use Rattle.std.specs.List.{AllByRecursion}
 use Rattle.std.specs.Str.{bytes_eq}
-use Rattle.std.proofs.lemmas.Slice.Eq.{bytes_eq-Decides}
-use Rattle.std.proofs.lemmas.Bool.{cases_Bool, le-leb}
+use Rattle.std.proofs.lemmas.Bool.{cases_Bool}
 use Rattle.ct_text.specs.declared.place.Place.{Place}
 use Rattle.ct_text.specs.Tokens.{Lexeme}
-use Rattle.ct_text.specs.Numbers.{natural_of, signed_of}
+use Rattle.ct_text.specs.Numbers.{is_natural, natural_of, signed_of}
 use Rattle.ct_text.specs.declared.number.NumberFault.TheVariants.{Spelling, Over}
 use Rattle.ct_text.specs.declared.number.NumberFault.{NumberFault}
 use Rattle.ct_input.specs.declared.fault.Fault.{Fault}
 use Rattle.ct_input.specs.declared.fault.TextReason.{TextReason}
 use Rattle.ct_input.specs.declared.fault.TextReason.TheVariants.{End, Word, Number, Limit, ZeroColumn, Extra}
 use Rattle.ct_input.specs.Sheet.{Sheet, ◌>>=◌, fault_next, fault_at}
-use Rattle.ct_input.specs.Grammar.{Grammar, done, nothing, word, number, signed, fork, barred, read, token_at, word_in, number_in, number_fault, signed_in, is_next}
+use Rattle.ct_input.specs.Grammar.{Grammar, done, nothing, word, number, signed, fork, barred, only, read, token_at, word_in, number_in, number_fault, signed_in, only_in, is_next}
 use Rattle.ct_input.specs.FirstFault.{IsSpelling, Accepts, IsFirstFault}
-
-abbrev sheet : List Lexeme → Place → Sheet
-sheet tokens end = record { tokens = tokens; end = end }
-
--- a token somewhere
-abbrev pub spelled : List ℕ → Lexeme
-spelled text = record { place = record { line = 1; column = 1 }; text = text }
-
--- a number that stands in each place
-abbrev pub one : List ℕ
-one = 49 ∷ []
-
--- tokens of a text of the grammar: the fewest, and each number is 1
-unfoldable pub fill : {A : Type 0} → Grammar A → List Lexeme
-fill (done x) = []
-fill (nothing next) = []
-fill (word w next) = spelled w ∷ fill next
-fill (number low high next) = spelled one ∷ fill (next 1)
-fill (signed size next) = spelled one ∷ fill (next (pos 1))
-fill (fork w first second) = fill second
-fill (barred w next) = fill next
-
--- the first word of these, where after comes after them
-unfoldable pub opens : {A : Type 0} → List ℕ → Grammar A → List ℕ
-opens after (done x) = after
-opens after (nothing next) = after
-opens after (word w next) = w
-opens after (number low high next) = one
-opens after (signed size next) = one
-opens after (fork w first second) = opens after second
-opens after (barred w next) = opens after next
-
--- Each place can be filled: 1 is within its limits, and what comes after a repetition doesn't begin as it does. Nothing
--- can be asked to be the end only of a whole text.
-unfoldable pub Fills : {A : Type 0} → Bool → List ℕ → Grammar A → Type 0
-Fills whole after (done x) = Unit {0}
-Fills {A} whole after (nothing next) = IsTrue whole × ((x : A) × (next ≡ done x))
-Fills whole after (word w next) = IsSpelling (spelled w) × Fills whole after next
-Fills whole after (number low high next) = (low ≤ 1) × (1 ≤ high) × ((n : ℕ) → Fills whole after (next n))
-Fills whole after (signed size next) = (1 ≤ size) × ((n : ℤ) → Fills whole after (next n))
-Fills whole after (fork w first second) = Fills whole after first × Fills whole after second × (bytes_eq (opens after second) w ≡ false)
-Fills whole after (barred w next) = Fills whole after next × (bytes_eq (opens after next) w ≡ false)
-
--- no text without a token is in the grammar
-unfoldable pub Needs : {A : Type 0} → Grammar A → Type 0
-Needs (done x) = ⊥
-Needs (nothing next) = ⊥
-Needs (word w next) = Unit {0}
-Needs (number low high next) = Unit {0}
-Needs (signed size next) = Unit {0}
-Needs (fork w first second) = Needs second
-Needs (barred w next) = Needs next
-
--- each text ends where nothing may follow, and a word that may not stand any more is followed by a token
-unfoldable pub Closes : {A : Type 0} → Grammar A → Type 0
-Closes (done x) = ⊥
-Closes (nothing next) = Unit {0}
-Closes (word w next) = Closes next
-Closes {A} (number low high next) = (n : ℕ) → Closes (next n)
-Closes {A} (signed size next) = (n : ℤ) → Closes (next n)
-Closes (fork w first second) = Closes first × Closes second
-Closes (barred w next) = Closes next × Needs next
-
-needs_token : {A : Type 0} (g : Grammar A) → Needs g → (end : Place) → is_ok (read g (sheet [] end)) ≡ false
-unfolding Needs
-needs_token (done x) h end = absurd h
-needs_token (nothing next) h end = absurd h
-needs_token (word w next) h end = refl
-needs_token (number low high next) h end = refl
-needs_token (signed size next) h end = refl
-needs_token (fork w first second) h end = needs_token second h end
-needs_token (barred w next) h end = needs_token next h end
-
-true_is_not_false : (b : Bool) → b ≡ true → b ≡ false → ⊥
-true_is_not_false b p q = cc
-
--- ---- the fewest tokens are accepted
-
-one_is_natural : (high : ℕ) → 1 ≤ high → natural_of one high ≡ Ok 1
-unfolding natural_of
-one_is_natural high h = rw (le-leb 1 high h) refl
-
-one_is_signed : (size : ℕ) → 1 ≤ size → signed_of one size ≡ Ok (pos 1)
-unfolding signed_of
-one_is_signed size h = rw (one_is_natural size h) refl
-
-one_is_spelling : IsSpelling (spelled one)
-one_is_spelling = record { some = λ e. cc; plain = refl }
-
-itself : (w : List ℕ) → bytes_eq w w ≡ true
-itself w = (bytes_eq-Decides w w).1 refl
-
-opens_not : {A : Type 0} (whole : Bool) (after w : List ℕ) (g : Grammar A) (end : Place) → bytes_eq (opens after g) w ≡ false → is_next w (sheet (fill g) end) ≡ false
-unfolding fill opens
-opens_not whole after w (done x) end h = refl
-opens_not whole after w (nothing next) end h = refl
-opens_not whole after w (word v next) end h = h
-opens_not whole after w (number low high next) end h = h
-opens_not whole after w (signed size next) end h = h
-opens_not whole after w (fork v first second) end h = opens_not whole after w second end h
-opens_not whole after w (barred v next) end h = opens_not whole after w next end h
-
-pub filled : {A : Type 0} (whole : Bool) (after : List ℕ) (g : Grammar A) → Fills whole after g → Accepts g (fill g)
-unfolding fill opens Fills
-filled whole after (done x) h end = refl
-filled whole after (nothing next) h end = rw h.1.1 refl
-filled whole after (word w next) h end = rw (itself w) (filled whole after next h.1 end)
-filled whole after (number low high next) h end = rw (one_is_natural high h.1, le-leb low 1 h.0) (filled whole after (next 1) (h.2 1) end)
-filled whole after (signed size next) h end = rw (one_is_signed size h.0) (filled whole after (next (pos 1)) (h.1 (pos 1)) end)
-filled whole after (fork w first second) h end = rw (opens_not whole after w second end h.2) (filled whole after second h.1 end)
-filled whole after (barred w next) h end = rw (opens_not whole after w next end h.1) (filled whole after next h.0 end)
-
-fill_spelled : {A : Type 0} (whole : Bool) (after : List ℕ) (g : Grammar A) → Fills whole after g → AllByRecursion IsSpelling (fill g)
-unfolding fill Fills
-fill_spelled whole after (done x) h = tt
-fill_spelled whole after (nothing next) h = tt
-fill_spelled whole after (word w next) h = (h.0, fill_spelled whole after next h.1)
-fill_spelled whole after (number low high next) h = (one_is_spelling, fill_spelled whole after (next 1) (h.2 1))
-fill_spelled whole after (signed size next) h = (one_is_spelling, fill_spelled whole after (next (pos 1)) (h.1 (pos 1)))
-fill_spelled whole after (fork w first second) h = fill_spelled whole after second h.1
-fill_spelled whole after (barred w next) h = fill_spelled whole after next h.0
-
--- ---- the first fault
+use Rattle.ct_input.proofs.Filling.{sheet, fill, Fills, Closes, needs_token, true_is_not_false, filled, fill_spelled}
 
 -- what is proved of each grammar in turn
 record First {A : Type 0} (g : Grammar A) (tokens : List Lexeme) (end : Place) (fault : Fault) : Type 0 where
@@ -268,6 +145,14 @@ word_faults w token f bad = go (bytes_eq token.text w) bad
     go true e = absurd (no_ok true f e)
     go false e = (Word, cc, of_word)
 
+only_faults : (w : List ℕ) (token : Lexeme) (f : Fault) → only_in w token ≡ Err f → (reason : TextReason) × (f ≡ fault_at token.place reason) × IsOfToken reason
+only_faults w token f bad = go (bytes_eq token.text w) (is_natural token.text) bad
+  where
+    go : (same natural : Bool) → cond same (Ok true) (Err (fault_at token.place (cond natural Limit Number))) ≡ Err f → (reason : TextReason) × (f ≡ fault_at token.place reason) × IsOfToken reason
+    go true natural e = absurd (no_ok true f e)
+    go false true e = (Limit, cc, of_limit)
+    go false false e = (Number, cc, of_number)
+
 spelling_faults : {X : Type 0} (place : Place) (r : Result X NumberFault) (f : Fault) → number_fault place r ≡ Err f → (reason : TextReason) × (f ≡ fault_at place reason) × IsOfToken reason
 spelling_faults place (Ok x) f e = absurd (no_ok x f e)
 spelling_faults place (Err Spelling) f e = (Number, cc, of_number)
@@ -378,6 +263,10 @@ closes_word : {A : Type 0} (w : List ℕ) (next : Grammar A) → Closes (word w 
 unfolding Closes
 closes_word w next h = h
 
+closes_only : {A : Type 0} (w : List ℕ) (next : Grammar A) → Closes (only w next) → Closes next
+unfolding Closes
+closes_only w next h = h
+
 closes_number : {A : Type 0} (low high : ℕ) (next : ℕ → Grammar A) → Closes (number low high next) → (n : ℕ) → Closes (next n)
 unfolding Closes
 closes_number low high next h = h
@@ -455,6 +344,7 @@ first_fault filling after (barred w next) h (token ∷ tokens) end fault bad =
       | inl found ↦ first_of_barred filling after w next h token tokens end fault found bad
       | inr absent ↦ first_of_past filling after (barred w next) next h w refl (barred_false w next) (first_fault filling after next h.0) (closes_barred w next) (token ∷ tokens) end fault bad absent
     ]
+first_fault filling after (only w next) h tokens end fault bad = first_of_reading filling after (only w next) h (only_in w) (λ _. next) (λ s. refl) (only_faults w) (λ _. first_fault filling after next h.1) (λ closes _. closes_only w next closes) tokens end fault bad
 
 -- the same, as a law of whole texts
 pub is_first : {A : Type 0} (after : List ℕ) (g : Grammar A) → Fills true after g → Closes g → (s : Sheet) (fault : Fault) → read g s ≡ Err fault → IsFirstFault g s fault

@@ -1,5 +1,6 @@
 pub mod Parts
 pub mod Loops
+pub mod Filling
 pub mod FirstFaults
 pub mod Filled
 pub mod ZeroColumns

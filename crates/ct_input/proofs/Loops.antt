@@ -6,7 +6,7 @@ use Rattle.ct_input.specs.declared.fault.Fault.{Fault}
 use Rattle.ct_input.specs.declared.fault.InputStop.{InputStop}
 use Rattle.ct_input.specs.declared.fault.InputStop.TheVariants as stops
 use Rattle.ct_input.specs.Sheet.{Sheet, ◌>>=◌, Fails}
-use Rattle.ct_input.specs.Grammar.{Grammar, done, part, read, token_at, number_in, signed_in, numbers, signeds, upto, if_some, is_next, after_next, barred_at}
+use Rattle.ct_input.specs.Grammar.{Grammar, done, part, read, token_at, number_in, signed_in, numbers, signeds, upto, exactly, if_some, is_next, after_next, barred_at}
 use Rattle.ct_input.specs.InstanceText.{more_rows}
 use Rattle.ct_input.proofs.Parts.{read_part}
 
@@ -144,3 +144,39 @@ module _ {X : Type 0} (item : ℕ → Grammar (Option X)) (uses : X → ℕ) (ov
   over_end front count spare s whole none may so_far =
       let ends : read (upto item uses over count spare) s ≡ Ok ([], s) = rw none may in
       is_done front s (read (upto item uses over count spare) s) whole ends so_far
+
+-- ---- so many items
+
+module _ {X : Type 0} (item : ℕ → Grammar X) (uses : X → ℕ) where
+  exactly_step : (count spare : ℕ) (x : X) (s rest : Sheet) → read (item spare) s ≡ Ok (x, rest) → read (exactly item uses (suc count) spare) s ≡ with_item x (read (exactly item uses count (spare - uses x)) rest)
+  unfolding exactly
+  exactly_step count spare x s rest h =
+      let more : X → Grammar (List X) = λ x. part (exactly item uses count (spare - uses x)) (λ xs. done (x ∷ xs)) in
+      read_part (item spare) more s ∙ rw h (read_part (exactly item uses count (spare - uses x)) (λ xs. done (x ∷ xs)) rest)
+
+  exactly_stop : (e : InputStop) (count spare : ℕ) (s : Sheet) → Fails e (read (item spare) s) → Fails e (read (exactly item uses (suc count) spare) s)
+  unfolding exactly
+  exactly_stop e count spare s h =
+      let more : X → Grammar (List X) = λ x. part (exactly item uses count (spare - uses x)) (λ xs. done (x ∷ xs)) in
+      rw (read_part (item spare) more s) (Fails_bind e (read (item spare) s) (λ y. read (more y.0) y.1) h)
+
+  -- the loop: front was found before, now is what is still read
+
+  pub each_err : (e : InputStop) (front : List X) (count later spare : ℕ) (s : Sheet) (whole : Result (List X × Sheet) Fault) → count ≡ suc later → Fails e (read (item spare) s)
+      → with_front front (read (exactly item uses count spare) s) ≡ whole → Fails e whole
+  each_err e front count later spare s whole some fault so_far =
+      let fails : Fails e (read (exactly item uses count spare) s) = rw some (exactly_stop e later spare s fault) in
+      stops_at e front (read (exactly item uses count spare) s) whole fails so_far
+
+  pub each_more : (front : List X) (count later spare left : ℕ) (x : X) (s rest : Sheet) (whole : Result (List X × Sheet) Fault) → count ≡ suc later → spare - uses x ≡ left → read (item spare) s ≡ Ok (x, rest)
+      → with_front front (read (exactly item uses count spare) s) ≡ whole → with_front (front ++ x ∷ []) (read (exactly item uses later left) rest) ≡ whole
+  each_more front count later spare left x s rest whole some uses_it found so_far =
+      let step : read (exactly item uses count spare) s ≡ with_item x (read (exactly item uses later left) rest) = rw (some, ← uses_it) (exactly_step later spare x s rest found) in
+      goes_on front x (read (exactly item uses count spare) s) (read (exactly item uses later left) rest) whole step so_far
+
+  pub each_end : (front : List X) (count spare : ℕ) (s : Sheet) (whole : Result (List X × Sheet) Fault) → count ≡ 0
+      → with_front front (read (exactly item uses count spare) s) ≡ whole → whole ≡ Ok (front, s)
+  unfolding exactly
+  each_end front count spare s whole none so_far =
+      let ends : read (exactly item uses count spare) s ≡ Ok ([], s) = rw none refl in
+      is_done front s (read (exactly item uses count spare) s) whole ends so_far

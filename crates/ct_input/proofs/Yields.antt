@@ -14,7 +14,7 @@ use Rattle.ct_input.specs.declared.script.Request.{Request}
 use Rattle.ct_input.specs.declared.script.Script.{Script}
 use Rattle.ct_input.specs.declared.fault.InputStop.{InputStop}
 use Rattle.ct_input.specs.Sheet.{Sheet, ◌>>=◌, Gives}
-use Rattle.ct_input.specs.Grammar.{Grammar, done, nothing, word, number, signed, fork, barred, part, numbers, upto, if_some, read, token_at, word_in, number_in, number_fault, signed_in, is_next, after_next, nothing_at, barred_at}
+use Rattle.ct_input.specs.Grammar.{Grammar, done, nothing, word, number, signed, fork, barred, only, part, numbers, upto, if_some, read, token_at, word_in, number_in, number_fault, signed_in, only_in, is_next, after_next, nothing_at, barred_at}
 use Rattle.ct_input.specs.SessionText.{request, no_request, requests, session, no_session, sessions, phase, no_phase, phases, session_text}
 use Rattle.ct_input.specs.Script.{IsRequest, IsPhase, IsScript}
 
@@ -27,6 +27,7 @@ Yields P (number low high next) = (n : ℕ) → n ≤ high → Yields P (next n)
 Yields P (signed size next) = (n : ℤ) → Yields P (next n)
 Yields P (fork w first second) = Yields P first × Yields P second
 Yields P (barred w next) = Yields P next
+Yields P (only w next) = Yields P next
 
 -- ---- what was read has P
 
@@ -88,6 +89,9 @@ read_yields P (fork w first second) s x all same =
       | false ↦ λ here. read_yields P second s x all.1 here
     ] same
 read_yields P (barred w next) s x all same = read_yields P next s x all (bind-ok (barred_at w s) (λ _. read next s) x same).1.1
+read_yields P (only w next) s x all same =
+    let b = bind-ok (token_at (only_in w) s) (λ y. read next y.1) x same in
+    read_yields P next b.0.1 x all b.1.1
 
 -- ---- the parts of a grammar
 
@@ -100,6 +104,7 @@ yields-part P Q (number low high next) f all goes = λ n below. yields-part P Q 
 yields-part P Q (signed size next) f all goes = λ n. yields-part P Q (next n) f (all n) goes
 yields-part P Q (fork w first second) f all goes = (yields-part P Q first f all.0 goes, yields-part P Q second f all.1 goes)
 yields-part P Q (barred w next) f all goes = yields-part P Q next f all goes
+yields-part P Q (only w next) f all goes = yields-part P Q next f all goes
 
 -- so many numbers up to a limit
 pub record AreNumbers (count high : ℕ) (ns : List ℕ) : Type 0 where

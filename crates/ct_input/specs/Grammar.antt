@@ -3,7 +3,7 @@ use Rattle.std.specs.Prelude.{ℕ, zero, suc, List, [], ◌∷◌, Bool, true, f
 use Rattle.std.specs.Str.{bytes_eq}
 use Rattle.ct_text.specs.declared.place.Place.{Place}
 use Rattle.ct_text.specs.Tokens.{Lexeme}
-use Rattle.ct_text.specs.Numbers.{natural_of, signed_of}
+use Rattle.ct_text.specs.Numbers.{is_natural, natural_of, signed_of}
 use Rattle.ct_text.specs.declared.number.NumberFault.{NumberFault}
 use Rattle.ct_text.specs.declared.number.NumberFault.TheVariants.{Spelling, Over}
 use Rattle.ct_input.specs.declared.fault.Fault.{Fault}
@@ -26,6 +26,8 @@ pub data Grammar (A : Type 0) : Type 0 where
   fork : List ℕ → Grammar A → Grammar A → Grammar A
   -- this word may not stand here any more
   barred : List ℕ → Grammar A → Grammar A
+  -- this word stands here, where a number might but none may any more
+  only : List ℕ → Grammar A → Grammar A
 
 -- So a grammar has no parentheses: word w then number 1 9 then λ m. ..
 infixr 1 ◌then◌
@@ -41,6 +43,7 @@ part (number low high next) f = number low high (λ n. part (next n) f)
 part (signed size next) f = signed size (λ n. part (next n) f)
 part (fork w first second) f = fork w (part first f) (part second f)
 part (barred w next) f = barred w (part next f)
+part (only w next) f = only w (part next f)
 
 -- so many natural numbers up to a limit
 unfoldable pub numbers : ℕ → ℕ → Grammar (List ℕ)
@@ -61,6 +64,11 @@ unfoldable pub upto : {X : Type 0} → (ℕ → Grammar (Option X)) → (X → �
 upto item uses over zero spare = over
 upto item uses over (suc count) spare =
     part (item spare) then λ found. if_some found then λ x. part (upto item uses over count (spare - uses x)) then λ xs. done (x ∷ xs)
+
+-- So many items. An item may depend on what is spare, and uses some.
+unfoldable pub exactly : {X : Type 0} → (ℕ → Grammar X) → (X → ℕ) → ℕ → ℕ → Grammar (List X)
+exactly item uses zero spare = done []
+exactly item uses (suc count) spare = part (item spare) then λ x. part (exactly item uses count (spare - uses x)) then λ xs. done (x ∷ xs)
 
 -- ---- the next token
 
@@ -85,6 +93,10 @@ number_in low high token = number_fault token.place (natural_of token.text high)
 
 abbrev pub signed_in : ℕ → Lexeme → Result ℤ Fault
 signed_in size token = number_fault token.place (signed_of token.text size)
+
+-- a number may stand there no more, and what is spelled as none never might
+abbrev pub only_in : List ℕ → Lexeme → Result Bool Fault
+only_in w token = if bytes_eq token.text w then Ok true else Err (fault_at token.place (if is_natural token.text then Limit else Number))
 
 abbrev pub is_next : List ℕ → Sheet → Bool
 is_next w sheet = first sheet.tokens
@@ -118,3 +130,4 @@ read (number low high next) sheet = token_at (number_in low high) sheet >>= λ x
 read (signed size next) sheet = token_at (signed_in size) sheet >>= λ x. read (next x.0) x.1
 read (fork w first second) sheet = if is_next w sheet then read first (after_next sheet) else read second sheet
 read (barred w next) sheet = barred_at w sheet >>= λ _. read next sheet
+read (only w next) sheet = token_at (only_in w) sheet >>= λ x. read next x.1

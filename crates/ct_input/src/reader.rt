@@ -1,5 +1,9 @@
 //! The reader of a text, one token ahead.
 
+ghost use Rattle.std.specs.Prelude.{◌≡◌, if◌then◌else◌};
+ghost use Rattle.ct_text.specs.Numbers.{is_natural};
+ghost use Rattle.ct_input.specs.declared.fault.TextReason.TheVariants.{Limit, Number};
+
 use crate::fault::{Fault, InputStop, TextReason};
 use ct_text::{NumberFault, Token, Tokens, natural, signed};
 use std::marker::Model;
@@ -27,7 +31,7 @@ impl<'a> Reader<'a> {
     ghost use Rattle.std.specs.Prelude.{◌≡◌, ◌<◌, ◌≤◌, ◌^◌, true, drop, IfOk, unsigned_abs, if◌then◌else◌};
     ghost use Rattle.ct_text.specs.Tokens.{text_of};
     ghost use Rattle.ct_input.specs.Sheet.{Gives, sheet_of, fault_next};
-    ghost use Rattle.ct_input.specs.Grammar.{is_next, after_next, barred_at, token_at, word_in, number_in, signed_in, nothing_at};
+    ghost use Rattle.ct_input.specs.Grammar.{is_next, after_next, barred_at, token_at, word_in, number_in, signed_in, only_in, nothing_at};
 
     pub fn new(bytes: &'a [u8]) -> Reader<'a>
         ensures { result ≡ sheet_of (text_of bytes.now) }
@@ -111,6 +115,20 @@ impl<'a> Reader<'a> {
         Ok(())
     }
 
+    /// Takes the word, where a number might stand but none may any more.
+    pub fn only(&mut self, word: &[u8]) -> Result<(), InputStop>
+        ensures { Gives (λ _. (true, self.new)) result (token_at (only_in word.now) self.old) }
+    {
+        let Some(token) = self.ahead else {
+            return Err(self.refuse(TextReason::End));
+        };
+        if token.text != word {
+            return Err(self.refuse(no_number(token.text)));
+        }
+        self.advance();
+        Ok(())
+    }
+
     pub fn number(&mut self, low: u64, high: u64) -> Result<u64, InputStop>
         ensures gives { Gives (λ n. (n, self.new)) result (token_at (number_in low high) self.old) }
         ensures within { IfOk result (λ n. (low ≤ n) × (n ≤ high)) }
@@ -155,5 +173,16 @@ impl<'a> Reader<'a> {
             Some(_) => Err(self.refuse(TextReason::Extra)),
             None => Ok(()),
         }
+    }
+}
+
+// Why a text can't stand where no number may any more.
+#[tactic(auto, unfolding(ct_text::specs::Numbers::natural_of))]
+fn no_number(text: &[u8]) -> TextReason
+    ensures { result ≡ (if is_natural text.now then Limit else Number) }
+{
+    match natural(text, 0) {
+        Err(NumberFault::Spelling) => TextReason::Number,
+        _ => TextReason::Limit,
     }
 }

@@ -11,14 +11,14 @@ use Rattle.ct_input.specs.declared.draft.Draft.{Draft}
 use Rattle.ct_input.specs.Grammar.{Grammar, done, nothing, word, number, signed, fork, barred, only, part, numbers, signeds, if_some, upto}
 use Rattle.ct_input.specs.InstanceText.{more_rows, cost_rows, instance_text}
 use Rattle.ct_input.specs.SessionText.{request, no_request, requests, session, no_session, sessions, phase, no_phase, phases, request_count, session_text}
-use Rattle.ct_input.proofs.Filling.{Fills, opens, Closes, Needs}
+use Rattle.ct_input.proofs.Filling.{end_word, Fills, opens, Closes, Needs}
 
 false_is_not_true : false ≡ true → ⊥
 false_is_not_true e = cc
 
 -- ---- a part and what follows it
 
-opens_part : {A B : Type 0} (after mid : List ℕ) (g : Grammar A) (f : A → Grammar B) → Fills false mid g → ((x : A) → opens after (f x) ≡ mid) → opens after (part g f) ≡ opens mid g
+pub opens_part : {A B : Type 0} (after mid : List ℕ) (g : Grammar A) (f : A → Grammar B) → Fills false mid g → ((x : A) → opens after (f x) ≡ mid) → opens after (part g f) ≡ opens mid g
 unfolding part opens Fills
 opens_part after mid (done x) f h follows = follows x
 opens_part after mid (nothing next) f h follows = absurd (false_is_not_true h.0)
@@ -29,7 +29,7 @@ opens_part after mid (fork w first second) f h follows = opens_part after mid se
 opens_part after mid (barred w next) f h follows = opens_part after mid next f h.0 follows
 opens_part after mid (only w next) f h follows = refl
 
-fills_part : {A B : Type 0} (whole : Bool) (after mid : List ℕ) (g : Grammar A) (f : A → Grammar B) → Fills false mid g → ((x : A) → Fills whole after (f x)) → ((x : A) → opens after (f x) ≡ mid) → Fills whole after (part g f)
+pub fills_part : {A B : Type 0} (whole : Bool) (after mid : List ℕ) (g : Grammar A) (f : A → Grammar B) → Fills false mid g → ((x : A) → Fills whole after (f x)) → ((x : A) → opens after (f x) ≡ mid) → Fills whole after (part g f)
 unfolding part opens Fills
 fills_part whole after mid (done x) f h more follows = more x
 fills_part whole after mid (nothing next) f h more follows = absurd (false_is_not_true h.0)
@@ -43,7 +43,7 @@ fills_part whole after mid (barred w next) f h more follows =
 fills_part whole after mid (only w next) f h more follows = (h.0, fills_part whole after mid next f h.1 more follows)
 
 -- what follows a part closes it
-closes_part : {A B : Type 0} (mid : List ℕ) (g : Grammar A) (f : A → Grammar B) → Fills false mid g → ((x : A) → Closes (f x) × Needs (f x)) → Closes (part g f) × Needs (part g f)
+pub closes_part : {A B : Type 0} (mid : List ℕ) (g : Grammar A) (f : A → Grammar B) → Fills false mid g → ((x : A) → Closes (f x) × Needs (f x)) → Closes (part g f) × Needs (part g f)
 unfolding part Fills Closes Needs
 closes_part mid (done x) f h more = more x
 closes_part mid (nothing next) f h more = absurd (false_is_not_true h.0)
@@ -58,12 +58,12 @@ closes_part mid (only w next) f h more = ((closes_part mid next f h.1 more).0, t
 
 -- ---- lists of numbers
 
-fills_numbers : (after : List ℕ) (count high : ℕ) → 1 ≤ high → Fills false after (numbers count high)
+pub fills_numbers : (after : List ℕ) (count high : ℕ) → 1 ≤ high → Fills false after (numbers count high)
 unfolding numbers Fills opens
 fills_numbers after zero high h = tt
 fills_numbers after (suc count) high h = (omega arith, h, λ n. fills_part false after after (numbers count high) (λ ns. done (n ∷ ns)) (fills_numbers after count high h) (λ ns. tt) (λ ns. refl))
 
-fills_signeds : (after : List ℕ) (count size : ℕ) → 1 ≤ size → Fills false after (signeds count size)
+pub fills_signeds : (after : List ℕ) (count size : ℕ) → 1 ≤ size → Fills false after (signeds count size)
 unfolding signeds Fills opens
 fills_signeds after zero size h = tt
 fills_signeds after (suc count) size h = (h, λ n. fills_part false after after (signeds count size) (λ ns. done (n ∷ ns)) (fills_signeds after count size h) (λ ns. tt) (λ ns. refl))
@@ -97,9 +97,6 @@ module _ {X : Type 0} (after : List ℕ) (item : ℕ → Grammar (Option X)) (us
       )
 
 -- ---- the session text
-
-abbrev end_word : List ℕ
-end_word = codes "end"
 
 right : 1 ≤ RIGHT_LIMIT
 right = lit≤ tt
@@ -205,7 +202,7 @@ fills_rows (suc count) n =
       refl,
     )
 
-fills_cost_rows : (n : ℕ) → Fills false end_word (cost_rows n)
+pub fills_cost_rows : (n : ℕ) → Fills false end_word (cost_rows n)
 unfolding cost_rows Fills opens
 fills_cost_rows n =
     let last : List ℤ → List ℤ → Grammar (List ℤ) = λ row rows. done (row ++ rows) in
@@ -217,7 +214,7 @@ fills_cost_rows n =
           (λ row. opens_part end_word end_word (more_rows (COST_ROW_LIMIT - 1) n) (last row) rest.0 (λ rows. refl) ∙ rest.1),
     )
 
-opens_cost_rows : (n : ℕ) → opens end_word (cost_rows n) ≡ codes "cost"
+pub opens_cost_rows : (n : ℕ) → opens end_word (cost_rows n) ≡ codes "cost"
 unfolding cost_rows opens
 opens_cost_rows n = refl
 

@@ -1,6 +1,6 @@
 -- Texts whose places can each be filled: the fewest tokens of each are accepted.
 use Rattle.std.proofs.Common.{◌≡◌, ℕ, ◌≤◌, Bool, true, false, List, [], ◌∷◌, Ok, ℤ, pos, refl}
-use Rattle.std.specs.Prelude.{is_ok, IsTrue}
+use Rattle.std.specs.Prelude.{codes, is_ok, IsTrue}
 use Rattle.std.specs.List.{AllByRecursion}
 use Rattle.std.specs.Str.{bytes_eq}
 use Rattle.std.proofs.lemmas.Slice.Eq.{bytes_eq-Decides}
@@ -18,6 +18,10 @@ sheet tokens end = record { tokens = tokens; end = end }
 -- a token somewhere
 abbrev pub spelled : List ℕ → Lexeme
 spelled text = record { place = record { line = 1; column = 1 }; text = text }
+
+-- the word that ends a text
+abbrev pub end_word : List ℕ
+end_word = codes "end"
 
 -- a number that stands in each place
 abbrev pub one : List ℕ

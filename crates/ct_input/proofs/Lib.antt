@@ -5,3 +5,4 @@ pub mod FirstFaults
 pub mod Filled
 pub mod ZeroColumns
 pub mod Yields
+pub mod Printed

@@ -39,9 +39,9 @@ fn later_costs(alloc: Global, reader: &mut Reader, columns: usize) -> Result<Vec
     Ok(costs)
 }
 
-// One to eight rows of costs, one after another.
+/// One to eight rows of costs, each after the word `cost`. The memory that it takes is that of the numbers, 8 bytes each.
 #[tactic(auto, using(crate::proofs::Parts::read_part), unfolding(crate::specs::InstanceText::cost_rows))]
-fn costs_in(alloc: Global, reader: &mut Reader, columns: usize) -> Result<Vec<i64>, InputStop>
+pub fn costs_in(alloc: Global, reader: &mut Reader, columns: usize) -> Result<Vec<i64>, InputStop>
     requires { 1 ≤ columns }
     ensures gives { Gives (λ v. (v.items, reader.new)) result (read (cost_rows columns) reader.old) }
     ensures whole_rows { IfOk result (λ v. vec_len v % columns ≡ 0) }
@@ -80,9 +80,9 @@ fn draft_of(alloc: Global, reader: &mut Reader) -> Result<Draft, InputStop>
     })
 }
 
-// Why the numbers of the text make no instance: its first zero column, whose entry in row 1 has the fault. It goes over
-// the tokens up to there once more.
-fn refused(bytes: &[u8], bad: BadMatrix) -> InputStop
+/// Why the numbers of a text make no instance: its first zero column, whose entry in row 1 has the fault, or want of
+/// memory. Before that entry stand 7 tokens and the entries to its left; it goes over them once more.
+pub fn refused(bytes: &[u8], bad: BadMatrix) -> InputStop
     ensures { result ≡ stop_of (sheet_of (text_of bytes.now)) bad }
 {
     match bad {

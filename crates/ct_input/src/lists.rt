@@ -8,7 +8,7 @@ use crate::fault::InputStop;
 use crate::reader::Reader;
 use std::alloc::Global;
 
-/// So many natural numbers up to a limit.
+/// So many natural numbers up to a limit. The memory that it takes is theirs, 8 bytes each, asked for at once.
 pub fn numbers(
     alloc: Global,
     reader: &mut Reader,
@@ -27,7 +27,7 @@ pub fn numbers(
     Ok(found)
 }
 
-/// So many signed numbers up to a size.
+/// So many signed numbers up to a size, as [`numbers`].
 pub fn signeds(
     alloc: Global,
     reader: &mut Reader,

@@ -1,6 +1,6 @@
 //! The texts of faults.
 
-ghost use Rattle.std.specs.Prelude.{◌≡◌, ◌++◌, IfOk, OnOk};
+ghost use Rattle.std.specs.Prelude.{◌≡◌, ◌++◌, ℕ, List, IfOk, OnOk, OnErr};
 ghost use Rattle.ct_input.specs.FaultText.{reason_text, json_reason_text, step_text, path_text, fault_text};
 
 use crate::fault::{Fault, TextReason};
@@ -34,7 +34,8 @@ fn json_reason_word(reason: JsonReason) -> &'static [u8]
 }
 
 fn push_step(out: &mut Vec<u8>, step: PathStep) -> Result<(), AllocError>
-    ensures { OnOk result (out.new.items ≡ out.old.items ++ step_text step) }
+    ensures ok { OnOk result (out.new.items ≡ out.old.items ++ step_text step) }
+    ensures err { OnErr result ((front : List ℕ) × (out.new.items ≡ out.old.items ++ front)) }
 {
     out.extend_from_slice(b"/")?;
     match step {
@@ -44,7 +45,8 @@ fn push_step(out: &mut Vec<u8>, step: PathStep) -> Result<(), AllocError>
 }
 
 fn push_path(out: &mut Vec<u8>, path: &[PathStep]) -> Result<(), AllocError>
-    ensures { OnOk result (out.new.items ≡ out.old.items ++ path_text path.now) }
+    ensures ok { OnOk result (out.new.items ≡ out.old.items ++ path_text path.now) }
+    ensures err { OnErr result ((front : List ℕ) × (out.new.items ≡ out.old.items ++ front)) }
 {
     if path.is_empty() {
         return out.extend_from_slice(b"/");
@@ -55,7 +57,8 @@ fn push_path(out: &mut Vec<u8>, path: &[PathStep]) -> Result<(), AllocError>
 ghost use Rattle.std.specs.List.{flat_map};
 
 fn push_steps(out: &mut Vec<u8>, path: &[PathStep]) -> Result<(), AllocError>
-    ensures { OnOk result (out.new.items ≡ out.old.items ++ flat_map step_text path.now) }
+    ensures ok { OnOk result (out.new.items ≡ out.old.items ++ flat_map step_text path.now) }
+    ensures err { OnErr result ((front : List ℕ) × (out.new.items ≡ out.old.items ++ front)) }
 {
     for step in path {
         push_step(out, *step)?;
@@ -68,7 +71,8 @@ fn push_steps(out: &mut Vec<u8>, path: &[PathStep]) -> Result<(), AllocError>
 ///
 /// After an `Err` a part of the text may stand at the end.
 pub fn push_fault(out: &mut Vec<u8>, fault: &Fault) -> Result<(), AllocError>
-    ensures { OnOk result (out.new.items ≡ out.old.items ++ fault_text fault.now) }
+    ensures ok { OnOk result (out.new.items ≡ out.old.items ++ fault_text fault.now) }
+    ensures err { OnErr result ((front : List ℕ) × (out.new.items ≡ out.old.items ++ front)) }
 {
     match fault {
         Fault::TooLong => out.extend_from_slice(b"too long"),

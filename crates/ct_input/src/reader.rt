@@ -8,7 +8,10 @@ use crate::fault::{Fault, InputStop, TextReason};
 use ct_text::{NumberFault, Token, Tokens, natural, signed};
 use std::marker::Model;
 
-/// The tokens of a text, of which the next is known.
+/// The tokens of a text, of which the next is known: a sheet with the tokens that are left and the place of the end.
+///
+/// Each call goes once over the bytes of the tokens that it passes, and takes no memory. After an `Err` the token that was
+/// refused still stands next.
 #[derive(Drop)]
 pub struct Reader<'a> {
     ahead: Option<Token<'a>>,
@@ -28,11 +31,12 @@ impl<'a> Model for Reader<'a> {
 }
 
 impl<'a> Reader<'a> {
-    ghost use Rattle.std.specs.Prelude.{◌≡◌, ◌<◌, ◌≤◌, ◌^◌, true, drop, IfOk, unsigned_abs, if◌then◌else◌};
+    ghost use Rattle.std.specs.Prelude.{◌≡◌, ◌<◌, ◌≤◌, ◌^◌, true, drop, IfOk, OnErr, unsigned_abs, if◌then◌else◌};
     ghost use Rattle.ct_text.specs.Tokens.{text_of};
     ghost use Rattle.ct_input.specs.Sheet.{Gives, sheet_of, fault_next};
     ghost use Rattle.ct_input.specs.Grammar.{is_next, after_next, barred_at, token_at, word_in, number_in, signed_in, only_in, nothing_at};
 
+    /// A reader at the first token of a text.
     pub fn new(bytes: &'a [u8]) -> Reader<'a>
         ensures { result ≡ sheet_of (text_of bytes.now) }
     {
@@ -102,8 +106,10 @@ impl<'a> Reader<'a> {
         Ok(())
     }
 
+    /// Takes the word, which must stand next.
     pub fn word(&mut self, word: &[u8]) -> Result<(), InputStop>
-        ensures { Gives (λ _. (true, self.new)) result (token_at (word_in word.now) self.old) }
+        ensures gives { Gives (λ _. (true, self.new)) result (token_at (word_in word.now) self.old) }
+        ensures err { OnErr result (self.new ≡ self.old) }
     {
         let Some(token) = self.ahead else {
             return Err(self.refuse(TextReason::End));
@@ -117,7 +123,8 @@ impl<'a> Reader<'a> {
 
     /// Takes the word, where a number might stand but none may any more.
     pub fn only(&mut self, word: &[u8]) -> Result<(), InputStop>
-        ensures { Gives (λ _. (true, self.new)) result (token_at (only_in word.now) self.old) }
+        ensures gives { Gives (λ _. (true, self.new)) result (token_at (only_in word.now) self.old) }
+        ensures err { OnErr result (self.new ≡ self.old) }
     {
         let Some(token) = self.ahead else {
             return Err(self.refuse(TextReason::End));
@@ -129,9 +136,11 @@ impl<'a> Reader<'a> {
         Ok(())
     }
 
+    /// Takes a natural number from `low` to `high`. One that is out of these bounds is Limit.
     pub fn number(&mut self, low: u64, high: u64) -> Result<u64, InputStop>
         ensures gives { Gives (λ n. (n, self.new)) result (token_at (number_in low high) self.old) }
         ensures within { IfOk result (λ n. (low ≤ n) × (n ≤ high)) }
+        ensures err { OnErr result (self.new ≡ self.old) }
     {
         let Some(token) = self.ahead else {
             return Err(self.refuse(TextReason::End));
@@ -147,10 +156,12 @@ impl<'a> Reader<'a> {
         }
     }
 
+    /// Takes a signed number of at most this size. A larger one is Limit.
     pub fn signed(&mut self, size: u64) -> Result<i64, InputStop>
         requires { size < 2 ^ 63 }
         ensures gives { Gives (λ n. (n, self.new)) result (token_at (signed_in size) self.old) }
         ensures within { IfOk result (λ n. unsigned_abs n ≤ size) }
+        ensures err { OnErr result (self.new ≡ self.old) }
     {
         let Some(token) = self.ahead else {
             return Err(self.refuse(TextReason::End));

@@ -1,8 +1,8 @@
 //! Texts from outside, with the faults that they have.
 
 use crate::{
-    Fault, InputStop, JsonReason, Name, PathStep, Request, TextReason, push_fault, read_instance,
-    read_sessions,
+    Fault, InputStop, JsonReason, Name, PathStep, Reader, Request, TextReason, push_fault,
+    read_instance, read_sessions,
 };
 use ct_point::Seq;
 use std::test::Fail;
@@ -240,6 +240,21 @@ fn texts_of_json_faults(rt: HostRuntime) -> Result<(), Fail> {
         let mut out = Vec::new(rt.alloc());
         push_fault(&mut out, &fault)?;
         assert!(rt; out.as_slice() == text);
+    }
+    Ok(())
+}
+
+#[test]
+fn a_number_that_may_stand_no_more(rt: HostRuntime) -> Result<(), Fail> {
+    for (text, fault) in [
+        (&b" - 3"[..], None),
+        (b" 3 -", at(1, 2, TextReason::Limit)),
+        (b"18446744073709551616", at(1, 1, TextReason::Limit)),
+        (b"-3", at(1, 1, TextReason::Number)),
+        (b"03", at(1, 1, TextReason::Number)),
+        (b"\n# -", at(2, 4, TextReason::End)),
+    ] {
+        assert!(rt; fault_of(Reader::new(text).only(b"-")) == fault);
     }
     Ok(())
 }

@@ -5,4 +5,7 @@ pub mod FirstFaults
 pub mod Filled
 pub mod ZeroColumns
 pub mod Yields
+pub mod CutTokens
 pub mod Printed
+pub mod CutGrammars
+pub mod CutTexts

@@ -8,3 +8,4 @@ pub mod FaultText
 pub mod Files
 pub mod FirstFault
 pub mod Refusals
+pub mod Cut

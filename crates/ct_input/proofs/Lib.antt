@@ -9,3 +9,4 @@ pub mod CutTokens
 pub mod Printed
 pub mod CutGrammars
 pub mod CutTexts
+pub mod Accepted

@@ -9,3 +9,4 @@ pub mod Files
 pub mod FirstFault
 pub mod Refusals
 pub mod Cut
+pub mod Accepted

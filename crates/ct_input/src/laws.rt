@@ -1,5 +1,6 @@
 //! Laws of the two grammars.
 
+ghost use Rattle.ct_input.specs.Accepted.{TextIsInstance, TextIsScript};
 ghost use Rattle.ct_input.specs.FirstFault.{InstanceFaultIsFirst, SessionFaultIsFirst};
 ghost use Rattle.ct_input.specs.Cut.{CutInstanceHasFault, CutSessionsHaveFault, InstanceEndsWithEnd, SessionsEndWithEnd};
 
@@ -25,4 +26,11 @@ pub fn cut_instance_has_fault()
 pub fn cut_sessions_have_fault()
     ensures cut { CutSessionsHaveFault }
     ensures last { SessionsEndWithEnd }
+{}
+
+/// An instance text that is accepted stands for an instance, and a session text for a script of an instance with so many
+/// rows, of at most 64 phases.
+pub fn texts_are_inputs()
+    ensures instance { TextIsInstance }
+    ensures script { TextIsScript }
 {}

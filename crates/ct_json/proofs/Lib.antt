@@ -3,3 +3,4 @@ pub mod Turns
 pub mod Counts
 pub mod Scripts
 pub mod Arrays
+pub mod Accepted

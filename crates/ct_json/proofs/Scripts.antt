@@ -20,7 +20,8 @@ use Rattle.ct_input.specs.declared.path.Name.TheVariants.{Sessions, Phases, Targ
 use Rattle.ct_input.specs.declared.path.JsonReason.TheVariants.{Missing, Limit}
 use Rattle.ct_input.specs.declared.fault.InputStop.{InputStop}
 use Rattle.ct_input.specs.Sheet.{◌>>=◌, Fails}
-use Rattle.ct_input.specs.Script.{IsRequest, IsPhase, IsScript}
+use Rattle.ct_input.specs.Script.{IsRequest, IsPhase}
+use Rattle.ct_input.specs.Accepted.{IsAcceptedScript}
 use Rattle.ct_json.specs.Values.{◌▹◌, refuse, only_if, array_at, object_at, has, no_others}
 use Rattle.ct_json.specs.Shapes.{Shape, natural, natural_at, form_at, each, list_of, naturals, member_as}
 use Rattle.ct_json.specs.SessionShape.{right_in, request_in, request, request_at, session, session_at, phase, phase_at, script_at}
@@ -64,14 +65,14 @@ says_phase m spare here d =
     (says_member (AreItems (λ rs. All (IsRequest m) rs) 0 SESSION_LIMIT) Sessions ((list_of 0 SESSION_LIMIT (session m)).reads spare) (says_list (λ rs. All (IsRequest m) rs) (session m) 0 SESSION_LIMIT (says_session m) spare) here d) (λ sessions are.
     ok_any (no_others (Target ∷ Sessions ∷ []) here d) _ (IsPhase m) (λ _. record { target = within; few = are.few; sessions = are.all }))))
 
-pub script_says : (m : ℕ) (here : List PathStep) (d : Data) → IfOk (script_at m here d) (IsScript m)
+pub script_says : (m : ℕ) (here : List PathStep) (d : Data) → IfOk (script_at m here d) (IsAcceptedScript m)
 unfolding script_at
 script_says m here d =
-    ok_any (object_at here d) _ (IsScript m) (λ _.
-    ok_any (member_as Sessions form_at here d) _ (IsScript m) (λ _.
-    ok_bind (member_as Phases ((list_of 0 PHASE_LIMIT (phase m)).reads REQUEST_LIMIT) here d) _ (AreItems (IsPhase m) 0 PHASE_LIMIT) (IsScript m)
+    ok_any (object_at here d) _ (IsAcceptedScript m) (λ _.
+    ok_any (member_as Sessions form_at here d) _ (IsAcceptedScript m) (λ _.
+    ok_bind (member_as Phases ((list_of 0 PHASE_LIMIT (phase m)).reads REQUEST_LIMIT) here d) _ (AreItems (IsPhase m) 0 PHASE_LIMIT) (IsAcceptedScript m)
     (says_member (AreItems (IsPhase m) 0 PHASE_LIMIT) Phases ((list_of 0 PHASE_LIMIT (phase m)).reads REQUEST_LIMIT) (says_list (IsPhase m) (phase m) 0 PHASE_LIMIT (says_phase m) REQUEST_LIMIT) here d) (λ phases are.
-    ok_any (no_others (Sessions ∷ Phases ∷ []) here d) _ (IsScript m) (λ _. are.all))))
+    ok_any (no_others (Sessions ∷ Phases ∷ []) here d) _ (IsAcceptedScript m) (λ _. (are.all, are.few)))))
 
 -- ---- a session with more requests than are spare
 

@@ -4,3 +4,4 @@ pub mod Shapes
 pub mod InstanceShape
 pub mod SessionShape
 pub mod Files
+pub mod Accepted

@@ -9,6 +9,7 @@
 mod files;
 mod here;
 mod instance_shape;
+pub mod laws;
 mod number_shapes;
 mod session_shape;
 mod shape;

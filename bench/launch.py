@@ -176,6 +176,14 @@ def cut(place):
     yield "standard output closed", place.run("answer") == (0, "version 1: answer\n", "")
 
 
+def held(place):
+    other = subprocess.Popen(["flock", f"{place.top}/repo/crates/ct_mid", "sleep", "3"])
+    time.sleep(0.3)
+    status, out, told = place.run("answer")
+    other.wait()
+    yield "another rt in a crate's folder", (status, out) == (0, "version 1: answer\n") and "waiting for another build of ct_mid" in told
+
+
 def two(place, pairs):
     bad, waited = 0, 0
     for _ in range(pairs):
@@ -199,7 +207,7 @@ def alone(place):
 def main():
     pairs = int(sys.argv[1]) if len(sys.argv) > 1 else 20
     failed = 0
-    for ways in (good, statuses, refused, cut, lambda it: two(it, pairs), alone):
+    for ways in (good, statuses, refused, cut, held, lambda it: two(it, pairs), alone):
         place = Place()
         try:
             for name, holds in ways(place):

@@ -5,7 +5,8 @@
 
 Looks whether docs/ARCHITECTURE.md has a row for each crate of crates.txt in its order, with the libraries that its code names
 and that no other of them stands on; whether docs/PROVED.md has a row for each crate that the program is made of, in cells of
-at most 60 words; whether the names that docs/DEFINITIONS.md and docs/PROVED.md give in backquotes stand in some crate; whether
+at most 60 words; whether docs/DECISIONS.md names each wrong body under its crate, and no other; whether README.md begins what is
+proved with the sentences of docs/PROMISE.md; whether the names that docs/DEFINITIONS.md and docs/PROVED.md give in backquotes stand in some crate; whether
 each link leads to a file or a heading; and whether README.md has at most 180 lines. Prints what doesn't hold, and ends with 1
 where something doesn't.
 """
@@ -103,6 +104,25 @@ def of_names(crates):
                     yield f"{page}: no crate has {name}"
 
 
+def of_edits(crates):
+    text = read("docs/DECISIONS.md")
+    listed_here, crate = set(), ""
+    for name in codes(text[text.index("| Kind of bug |") :].split("\n\n")[0]):
+        crate = name if name in crates else crate
+        listed_here |= {(crate, name)} - {(name, name)}
+    folders = {it: f"{TOP}/crates/{it}/must-fail" for it in crates}
+    there = {(it, name[:-5]) for it, folder in folders.items() if os.path.isdir(folder) for name in os.listdir(folder) if name.endswith(".edit")}
+    yield from (f"DECISIONS: {crate} {name} stands on one side alone" for crate, name in sorted(there ^ listed_here))
+
+
+def of_promise():
+    """What stands between two comments of the page stands in the README too."""
+    if os.path.exists(f"{TOP}/docs/PROMISE.md"):
+        sentences = read("docs/PROMISE.md").split("<!-- the five sentences -->\n")[1].split("<!--")[0]
+        if sentences not in read("README.md"):
+            yield "README.md hasn't the sentences of docs/PROMISE.md"
+
+
 def of_links():
     pages = ["README.md", "CONTRIBUTING.md", *(f"docs/{it}" for it in sorted(os.listdir(f"{TOP}/docs")) if it.endswith(".md"))]
     for page in pages:
@@ -121,7 +141,7 @@ def of_links():
 
 def main():
     crates = listed()
-    found = [*of_architecture(crates), *of_proved(crates), *of_names(crates), *of_links()]
+    found = [*of_architecture(crates), *of_proved(crates), *of_edits(crates), *of_promise(), *of_names(crates), *of_links()]
     print("\n".join(found) or "the documents agree with the crates")
     return int(bool(found))
 

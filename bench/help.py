@@ -4,7 +4,7 @@
     bench/help.py
 
 Reads crates/ct_words/src/table.rt and the limits in crates/ct_vectors/src/limits.rt, and compares each command with the kinds
-of its words, its options, and the least and the greatest number of each. Where the program is built, what it writes to no
+of its words, its options, and the least and the greatest number of each, and the lines with those of docs/FORMATS.md. Where the program is built, what it writes to no
 command is compared with what `./ct help` writes. Ends with 1 where they differ.
 """
 import os
@@ -68,6 +68,10 @@ def main():
         if in_table.get(name) != in_list.get(name):
             print(f"{name}: the table has {in_table.get(name)}, the list {in_list.get(name)}")
             return 1
+    lines = [it.strip() for it in ran.stderr.split("\n") if it.startswith("  ct ")]
+    if "\n".join(["```", *lines, "```"]) not in text("docs/FORMATS.md"):
+        print("docs/FORMATS.md has other lines")
+        return 1
     program = f"{TOP}/crates/ct_cli/out/ct_cli"
     if os.path.exists(program):
         for words in ([], ["help"], ["--help"], ["-h"]):

@@ -4,8 +4,8 @@
     bench/help.py
 
 Reads crates/ct_words/src/table.rt and the limits in crates/ct_vectors/src/limits.rt, and compares each command with the kinds
-of its words, its options, and the least and the greatest number of each, and the lines with those of docs/FORMATS.md. Where the program is built, what it writes to no
-command is compared with what `./ct help` writes. Ends with 1 where they differ.
+of its words, its options, and the least and the greatest number of each; and its line with that of docs/FORMATS.md. Where the
+program is built, what it writes to no command is compared with what `./ct help` writes. Ends with 1 where they differ.
 """
 import os
 import re

@@ -137,6 +137,9 @@ def refused(place):
         status, out, told = place.run("answer")
         yield f"a crate that {says}", (status, out) == (1, "") and f"the build failed at ct_mid, which {says}" in told and "    two" in told
         yield "its log is kept, and nothing else", place.leaves() == ["build.log"]
+    place.write("stub/ct_mid.does", "kill -9 $PPID; sleep 1")
+    status, out, told = place.run("answer")
+    yield "a step that was killed", (status, out) == (1, "") and "failed at ct_mid, which was killed" in told
     place.write("stub/ct_mid.does", "")
     place.write("stub/ct_cli.does", "echo no linker; exit 1")
     status, out, told = place.run("answer")
@@ -153,13 +156,15 @@ def refused(place):
 
 
 def cut(place):
-    place.write("stub/ct_mid.does", "sleep 4")
+    place.write("stub/ct_mid.does", "mkdir -p out/incremental; echo half >>out/incremental/work; exec sleep 4")
     for sent, status in ((signal.SIGTERM, 143), (signal.SIGINT, 130), (signal.SIGHUP, 129)):
         it = place.start("answer")
         time.sleep(1.2)
         os.kill(it.pid, sent)
         out, told = it.communicate(timeout=3)
         yield f"cut off by {sent.name}", (it.returncode, out) == (status, "") and "cut off" in told and place.leaves() == []
+    with open(f"{place.top}/repo/crates/ct_mid/out/incremental/work", encoding="utf-8") as it:
+        yield "what was begun is kept, and gone on with", it.read() == 3 * "half\n"
     it = place.start("answer")
     time.sleep(1.2)
     it.kill()

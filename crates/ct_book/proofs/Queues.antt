@@ -10,7 +10,7 @@ use Rattle.std.proofs.lemmas.List.Kept.{AllPairs-filter}
 use Rattle.ct_instance.specs.declared.jobs.Job.{Job}
 use Rattle.ct_instance.specs.Made.{indices}
 use Rattle.ct_instance.proofs.Lists.{Contains-filter, filter_gives, Contains-cons_cases, Contains-nil, Contains-here, Contains-there}
-use Rattle.ct_instance.proofs.Entries.{length-indices}
+use Rattle.ct_instance.proofs.Entries.{length-indices, get_or-indices}
 use Rattle.ct_instance.proofs.JobsList.{Contains-indices, lt-indices}
 use Rattle.ct_book.specs.Queues.{QueueSeen, IsQueue, waits, waits_at, without}
 
@@ -172,12 +172,6 @@ turned_one jobs s before rest after left p q first last =
 filter_all : (p : ℕ → Bool) (xs : List ℕ) → ((x : ℕ) → Contains xs x → p x ≡ true) → filter p xs ≡ xs
 filter_all p [] h = refl
 filter_all p (x ∷ xs) h = rw (h x (Contains-here x xs)) (ap (λ l. x ∷ l) (filter_all p xs (λ y c. h y (Contains-there x xs y c))))
-
-get_or-indices : (n k d : ℕ) → k < n → get_or (indices n) k d ≡ k
-get_or-indices zero k d l = absurd (omega arith)
-get_or-indices (suc n) k d l =
-    ⊎_elim (λ m. get_or_append_left (indices n) (n ∷ []) d k (let e : k < length (indices n) = omega (arith, length-indices n, m) in e) ∙ get_or-indices n k d m)
-    (λ m. get_or_push (indices n) n d k (let e : length (indices n) ≡ k = omega (arith, length-indices n) in e) ∙ (let e : n ≡ k = omega arith in e)) (cases_lt k n)
 
 indices_differ : (n : ℕ) → AllPairs Differs (indices n)
 indices_differ n i j d below within e =

@@ -1,6 +1,6 @@
 //! The book.
 ghost use Rattle.std.specs.Prelude.{◌≡◌, ◌≤◌, ◌<◌, ◌+◌, ◌^◌, [], ◌∷◌, ◌++◌, ◌↔◌, ℕ, length, vec_len, vec_capacity, All, IsPermutation, IfOk, OnOk, OnErr, MatchResult, IsTrue};
-ghost use Rattle.ct_vectors.specs.declared.limits.TheConstants.{GRADE_LIMIT, MOVE_LIMIT};
+ghost use Rattle.ct_vectors.specs.declared.limits.TheConstants.{GRADE_LIMIT, MOVE_LIMIT, PASS_LIMIT};
 
 use crate::batches::{Batch, Reduced, hand_out_beside, take_in_all};
 use crate::completing::complete;
@@ -66,7 +66,7 @@ impl Book {
         requires some { 1 ≤ limit }
         requires most { limit ≤ MOVE_LIMIT }
         requires some_pass { 1 ≤ passes }
-        requires passes { passes ≤ 33 }
+        requires passes { passes ≤ PASS_LIMIT }
         ensures { IfOk result (λ b. b ≡ record { instance = arc_value inst; limit = limit; passes = passes; state = just_opened (arc_value inst) 0; journal = [] }) }
     {
         let buckets = Buckets::new(alloc, &inst)?;

@@ -1,6 +1,6 @@
 //! The completion of coins of 3 and 5 at cost 2 and 3.
 ghost use Rattle.std.specs.Prelude.{◌≡◌, ◌≤◌, ◌<◌, length};
-ghost use Rattle.ct_vectors.specs.declared.limits.TheConstants.{GRADE_LIMIT, MOVE_LIMIT};
+ghost use Rattle.ct_vectors.specs.declared.limits.TheConstants.{GRADE_LIMIT, MOVE_LIMIT, PASS_LIMIT};
 
 use crate::{Act, Book, Committed, Entry, Next, Published, Remainder, Step};
 use ct_instance::{Instance, Job};
@@ -15,7 +15,7 @@ fn coins(rt: &impl Abort, alloc: Global, limit: u32, passes: u32) -> Book
     requires some { 1 ≤ limit }
     requires most { limit ≤ MOVE_LIMIT }
     requires some_pass { 1 ≤ passes }
-    requires passes { passes ≤ 33 }
+    requires passes { passes ≤ PASS_LIMIT }
     ensures passes { result.passes ≡ passes }
     ensures rows { result.instance.rows ≡ 1 }
     ensures columns { length result.instance.columns ≡ 2 }

@@ -1,13 +1,10 @@
 -- No line of a ledger is refused exactly where it is accepted.
 use Rattle.std.proofs.Common.{ℕ, ◌+◌, ◌≡◌, ◌↔◌, Bool, true, false, true≢false, not, ◌&&◌, nat_le, nat_lt, nat_eq, cond, Decides, Option, Some, None, List, [], ◌∷◌, length, map, All, refl, sym, ap, ap₂, ◌∙◌, eqb-true, eq-eqb}
 use Rattle.std.specs.Option.{option_or, option_map}
-use Rattle.std.specs.Cmp.Lexicographic.{pointwise}
 use Rattle.std.proofs.lemmas.Bool.{and_parts, and_from, false_from_ne_true, cond-true, cond-false, ltb-false, le-ltb, leb-true, le-leb}
-use Rattle.std.proofs.lemmas.Bool.Decides.{Decides-eqb}
-use Rattle.std.proofs.lemmas.Slice.Eq.{slice_eq-Decides}
 use Rattle.std.proofs.lemmas.List.Elements.{All-nil, All-cons, All-head, All-tail}
 use Rattle.ct_vectors.specs.Vectors.{scale, divides}
-use Rattle.ct_vectors.proofs.Divisors.{Divides-from_test, test_from_Divides, Decides-disjoint}
+use Rattle.ct_vectors.proofs.Divisors.{Divides-from_test, test_from_Divides, Decides-disjoint, Decides-same_numbers}
 use Rattle.ct_order.specs.Order.{refined_order}
 use Rattle.ct_order.proofs.Order.{Less-from_test, test_from_Less}
 use Rattle.ct_instance.specs.declared.jobs.Job.{Job}
@@ -28,9 +25,6 @@ use Rattle.ct_checker.specs.Accepted.{moves_of, job_of, IsLedgerMove, AreWalks, 
 use Rattle.ct_checker.specs.Refusals.{same_numbers, is_coprime, can_apply, end_of_steps, move_reason, walks_reason, words_reason, entry_reason, refused_move, refused_entry, refused_size, first_refusal_of}
 
 -- ---- the tests
-
-pub same_numbers_test : (p q : List ℕ) → Decides (same_numbers p q) (p ≡ q)
-same_numbers_test p q = slice_eq-Decides Decides-eqb p q (pointwise nat_eq p q) refl
 
 pub coprime_test : (ms : List Binomial) (j : Job) → Decides (is_coprime ms j) (IsCoprime ms j)
 coprime_test ms (Generator j) = (λ e. absurd (true≢false (sym e)), λ c. absurd c)
@@ -130,7 +124,7 @@ module _ (i : Problem) (g : ℕ) where
           let c = refuses_none (not lower) Order None b.1 in
           record {
             grade = ltb-false g (grade_of i.columns m.head) a.0;
-            degree = (same_numbers_test (degree_of i.columns m.tail) (degree_of i.columns m.head)).0 (not_true same b.0);
+            degree = (Decides-same_numbers (degree_of i.columns m.tail) (degree_of i.columns m.head)).0 (not_true same b.0);
             below = Less-from_test (refined_order (column_count i) i.cost_rows m.tail m.head) (not_true lower c.0);
           }
 
@@ -138,7 +132,7 @@ module _ (i : Problem) (g : ℕ) where
       back u =
           cond-false above (Some Grade) (cond (not same) (Some Degree) (cond (not lower) (Some Order) None)) (le-ltb g (grade_of i.columns m.head) u.grade) ∙
           cond-false (not same) (Some Degree) (cond (not lower) (Some Order) None)
-          (ap not ((same_numbers_test (degree_of i.columns m.tail) (degree_of i.columns m.head)).1 u.degree)) ∙
+          (ap not ((Decides-same_numbers (degree_of i.columns m.tail) (degree_of i.columns m.head)).1 u.degree)) ∙
           cond-false (not lower) (Some Order) None (ap not (test_from_Less (refined_order (column_count i) i.cost_rows m.tail m.head) u.below))
 
   moves_right : (n : ℕ) (ms : List Binomial) → (refused_move i g n ms ≡ None) ↔ All (IsLedgerMove i g) ms
@@ -158,7 +152,7 @@ walks_meet None second e = absurd (cc)
 walks_meet (Some p) None e = absurd (cc)
 walks_meet (Some p) (Some q) e =
     let b = passes_none (same_numbers p q) End None e in
-    (p, refl, ap Some (sym ((same_numbers_test p q).0 b.0)))
+    (p, refl, ap Some (sym ((Decides-same_numbers p q).0 b.0)))
 
 module _ (i : Problem) (ms : List Binomial) where
   words_right : (e : LedgerEntry) → (words_reason i ms e ≡ None) ↔ IsEntryRight i ms e
@@ -192,7 +186,7 @@ module _ (i : Problem) (ms : List Binomial) where
           cond-false (is_coprime ms j) (Some Coprime) (walks_reason one other)
           (false_from_ne_true (is_coprime ms j) (λ e. u.0 ((coprime_test ms j).0 e))) ∙
           ap₂ walks_reason ((end_test ms (first_end_of i ms j) w.point first).1 w.first_steps) ((end_test ms (second_end_of i ms j) w.point second).1 w.second_steps) ∙
-          cond-true (same_numbers w.point w.point) None (Some End) ((same_numbers_test w.point w.point).1 refl)
+          cond-true (same_numbers w.point w.point) None (Some End) ((Decides-same_numbers w.point w.point).1 refl)
 
   entries_right : (n : ℕ) (js : List Job) (es : List LedgerEntry) → (refused_entry i ms n js es ≡ None) ↔ ((map job_of es ≡ js) × All (IsEntryRight i ms) es)
   entries_right n [] [] = (λ e. (refl, All-nil (IsEntryRight i ms)), λ a. refl)

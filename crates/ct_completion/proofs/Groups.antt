@@ -3,14 +3,12 @@
 use Rattle.std.proofs.Common.{ℕ, ◌≤◌, ◌<◌, ◌≡◌, ◌⊎◌, ⊎_elim, Bool, ◌&&◌, nat_eq, Decides, Option, Some, None, List, [], ◌∷◌, ◌++◌, length, map, filter, flat_map, get_or, Contains, refl, sym, subst, subst₂, ap, ◌∙◌, arith, zero, suc}
 use Rattle.std.specs.List.{slice_get}
 use Rattle.std.specs.Cmp.Lexicographic.{pointwise}
-use Rattle.std.proofs.lemmas.Bool.Decides.{Decides-eqb}
 use Rattle.std.proofs.lemmas.Option.{slice_get-get_or, slice_get_within, get_or_from_slice_get}
 use Rattle.std.proofs.lemmas.Bool.{cases_lt, and_parts, and_from}
-use Rattle.std.proofs.lemmas.Slice.Eq.{slice_eq-Decides}
 use Rattle.std.proofs.lemmas.List.Elements.{All-append, Contains-append_right, Contains-append_cases, Contains-get_or}
 use Rattle.ct_vectors.specs.Vectors.{total, add, subtract, zeros, lcm, Divides, Disjoint}
 use Rattle.ct_vectors.proofs.Sums.{total-add, length-subtract, length-zeros, zeros-add, subtract_self}
-use Rattle.ct_vectors.proofs.Divisors.{Divides-lcm, Divides-lcm_right, length-lcm, add-subtract}
+use Rattle.ct_vectors.proofs.Divisors.{Divides-lcm, Divides-lcm_right, length-lcm, add-subtract, Decides-same_numbers}
 use Rattle.ct_order.proofs.Order.{Less-from_test, test_from_Less}
 use Rattle.ct_order.specs.Order.{refined_order}
 use Rattle.ct_instance.specs.declared.jobs.Job.{Job}
@@ -75,9 +73,6 @@ pub record IsNewPair (i : Problem) (points : List (List ℕ)) (m : Binomial) : T
   pub degree : degree_of i.columns m.tail ≡ degree_of i.columns m.head
   pub below : IsBelow i m.tail m.head
 
-same_numbers : (xs ys : List ℕ) → Decides (pointwise nat_eq xs ys) (xs ≡ ys)
-same_numbers xs ys = slice_eq-Decides Decides-eqb xs ys (pointwise nat_eq xs ys) refl
-
 pair_gives : (i : Problem) (points : List (List ℕ)) (m : Binomial) → Contains (pair_moves i points) m → IsNewPair i points m
 pair_gives i points m c =
     let r = flat_map_gives (λ p. map (move_of p) (filter (is_lower_beside i p) points)) points m c in
@@ -88,7 +83,7 @@ pair_gives i points m c =
     (record {
       head = r.1;
       tail = f.0;
-      degree = (same_numbers (degree_of i.columns t.0) (degree_of i.columns r.0)).0 b.0;
+      degree = (Decides-same_numbers (degree_of i.columns t.0) (degree_of i.columns r.0)).0 b.0;
       below = Less-from_test (refined_order (column_count i) i.cost_rows t.0 r.0) b.1;
     })
 
@@ -99,7 +94,7 @@ pair_has i points p q c d e b =
     (Contains-map (move_of p) (filter (is_lower_beside i p) points) q
     (Contains-filter (is_lower_beside i p) points q d
     (and_from (pointwise nat_eq (degree_of i.columns q) (degree_of i.columns p)) (is_lower i q p)
-    ((same_numbers (degree_of i.columns q) (degree_of i.columns p)).1 e)
+    ((Decides-same_numbers (degree_of i.columns q) (degree_of i.columns p)).1 e)
     (test_from_Less (refined_order (column_count i) i.cost_rows q p) b))))
 
 -- ---- points of one grade

@@ -19,13 +19,13 @@ use Rattle.ct_input.specs.Script.{IsRequest, IsPhase, IsScript}
 use Rattle.ct_version.specs.declared.answers.Answer.{Answer}
 use Rattle.ct_version.specs.declared.answers.Answer.TheVariants.{Optimum, Infeasible}
 use Rattle.ct_version.specs.Answers.{outcome_seen}
-use Rattle.ct_version.proofs.Walked.{least-limit}
 use Rattle.ct_session.specs.declared.lines.Line.{Line}
 use Rattle.ct_session.specs.declared.lines.Line.TheVariants.{Answered, NotYet, Full}
 use Rattle.ct_session.specs.Lines.{IsAnsweredLine, IsFullOrAnswered}
 use Rattle.ct_report.specs.declared.reports.PhaseReport.{PhaseReport}
 use Rattle.ct_report.specs.declared.reports.Report.{Report}
 use Rattle.ct_instance.specs.Reach.{full_grade_up_to}
+use Rattle.ct_instance.proofs.Points.{least-limit}
 use Rattle.ct_vectors.specs.Vectors.{total}
 use Rattle.ct_legal.specs.Cases.{Case, plain_case}
 use Rattle.ct_legal.specs.Scripts.{as_solve, phase_with_solves, grade_after}

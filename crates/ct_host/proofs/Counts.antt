@@ -3,16 +3,10 @@ use Rattle.std.proofs.Common.{◌≡◌, ℕ, ◌<◌, [], ◌∷◌, length, ze
 use Rattle.std.proofs.lemmas.Bool.{cases_eq, cases_lt}
 use Rattle.std.proofs.lemmas.List.{get_or-map, length-map, ext_get_or, get_or_push, get_or_append_left, get_or_default}
 use Rattle.ct_instance.specs.Made.{indices}
-use Rattle.ct_instance.proofs.Entries.{length-indices}
+use Rattle.ct_instance.proofs.Entries.{length-indices, get_or-indices}
 use Rattle.ct_completion.specs.Journal.{entries_of}
 use Rattle.count_lock.specs.Pairs.{GrowsAt}
 use Rattle.ct_book.specs.Books.{BookSeen, CountsRise, counts_of}
-
-get_or-indices : (n k : ℕ) → k < n → get_or (indices n) k 0 ≡ k
-get_or-indices zero k l = absurd (omega arith)
-get_or-indices (suc n) k l =
-    ⊎_elim (λ m. get_or_append_left (indices n) (n ∷ []) 0 k (let e : k < length (indices n) = omega (arith, length-indices n, m) in e) ∙ get_or-indices n k m)
-    (λ m. get_or_push (indices n) n 0 k (let e : length (indices n) ≡ k = omega (arith, length-indices n) in e) ∙ (let e : n ≡ k = omega arith in e)) (cases_lt k n)
 
 pub length_counts : (b : BookSeen) → length (counts_of b) ≡ b.passes
 length_counts b = length-map (indices b.passes) (λ p. entries_of p b.journal) ∙ length-indices b.passes
@@ -20,7 +14,7 @@ length_counts b = length-map (indices b.passes) (λ p. entries_of p b.journal) �
 pub count_at : (b : BookSeen) (k : ℕ) → k < b.passes → slice_index (counts_of b) k ≡ entries_of k b.journal
 count_at b k within =
     let n = length-indices b.passes in
-    get_or-map (λ p. entries_of p b.journal) (indices b.passes) k 0 0 (omega (arith, n)) ∙ ap (λ p. entries_of p b.journal) (get_or-indices b.passes k within)
+    get_or-map (λ p. entries_of p b.journal) (indices b.passes) k 0 0 (omega (arith, n)) ∙ ap (λ p. entries_of p b.journal) (get_or-indices b.passes k 0 within)
 
 pub counts_grow : (b c : BookSeen) (by rise : ℕ) → by < b.passes → c.passes ≡ b.passes → CountsRise by rise b c → GrowsAt by (counts_of b) (counts_of c)
 counts_grow b c by rise within same rises =

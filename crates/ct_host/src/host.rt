@@ -38,7 +38,7 @@ impl Model for Host {
 impl Host {
     ghost use Rattle.std.specs.Prelude.{◌≡◌, ◌≤◌, map, IfOk, IfErr};
     ghost use Rattle.std.specs.Arc.{arc_value};
-    ghost use Rattle.ct_vectors.specs.declared.limits.TheConstants.{GRADE_LIMIT, MOVE_LIMIT};
+    ghost use Rattle.ct_vectors.specs.declared.limits.TheConstants.{GRADE_LIMIT, MOVE_LIMIT, PASS_LIMIT};
     ghost use Rattle.ct_instance.specs.Made.{indices};
     ghost use Rattle.ct_version.specs.Desks.{IsPin, IsHelp, IsStop};
     ghost use Rattle.ct_vectors.specs.Words.{latest};
@@ -58,7 +58,7 @@ impl Host {
         requires some { 1 ≤ limit }
         requires most { limit ≤ MOVE_LIMIT }
         requires some_pass { 1 ≤ passes }
-        requires passes { passes ≤ 33 }
+        requires passes { passes ≤ PASS_LIMIT }
         ensures place { IfOk result (λ r. r.0.place ≡ record { instance = arc_value inst; limit = limit; passes = passes }) }
         ensures passes { IfOk result (λ r. r.1.items ≡ map (fresh_pass r.0.key) (indices passes)) }
     {

@@ -1,6 +1,6 @@
 //! Hosts of coins of 3 and 5 at cost 2 and 3.
 ghost use Rattle.std.specs.Prelude.{◌≡◌, ◌≤◌, [], map};
-ghost use Rattle.ct_vectors.specs.declared.limits.TheConstants.{GRADE_LIMIT, MOVE_LIMIT};
+ghost use Rattle.ct_vectors.specs.declared.limits.TheConstants.{GRADE_LIMIT, MOVE_LIMIT, PASS_LIMIT};
 ghost use Rattle.ct_instance.specs.Made.{indices};
 ghost use Rattle.ct_host.specs.Hosts.{IsOfHost, fresh_pass};
 
@@ -19,7 +19,7 @@ fn coins(rt: &impl Abort, alloc: Global, limit: u32, passes: u32) -> (Host, Vec<
     requires some { 1 ≤ limit }
     requires most { limit ≤ MOVE_LIMIT }
     requires some_pass { 1 ≤ passes }
-    requires passes { passes ≤ 33 }
+    requires passes { passes ≤ PASS_LIMIT }
     ensures number { result.0.place.passes ≡ passes }
     ensures passes { result.1.items ≡ map (fresh_pass result.0.key) (indices passes) }
 {

@@ -7,6 +7,7 @@ use crate::single::{Completion, by_one};
 use crate::workers::by_workers;
 use anyhow::{Context, Result, ensure};
 use ct_instance::Instance;
+use ct_vectors::limits::PASS_LIMIT;
 use std::alloc::Global;
 use std::fmt;
 use std::sync::{Arc, Wait};
@@ -49,7 +50,10 @@ impl Way {
             Way::One => by_one(alloc, inst, target),
             Way::Calls => by_calls(rt, alloc, inst, target, calls),
             Way::Workers(workers) => {
-                ensure!(1 <= workers && workers <= 33, "1 to 33 workers");
+                ensure!(
+                    1 <= workers && workers <= PASS_LIMIT,
+                    "1 to {PASS_LIMIT} workers"
+                );
                 by_workers(rt, alloc, inst, target, workers)
             }
         }

@@ -1,6 +1,6 @@
 //! The workers of a host.
 ghost use Rattle.std.specs.Prelude.{◌≤◌, All};
-ghost use Rattle.ct_vectors.specs.declared.limits.TheConstants.{GRADE_LIMIT};
+ghost use Rattle.ct_vectors.specs.declared.limits.TheConstants.{GRADE_LIMIT, PASS_LIMIT};
 ghost use Rattle.ct_host.specs.Hosts.{IsOfHost};
 
 use crate::single::Completion;
@@ -24,7 +24,7 @@ pub fn by_workers<R: Threads + Wait + Sync>(
     workers: u32,
 ) -> Result<Completion>
     requires some { 1 ≤ workers }
-    requires most { workers ≤ 33 }
+    requires most { workers ≤ PASS_LIMIT }
     requires target { target ≤ GRADE_LIMIT }
 {
     let inst = Arc::try_clone(inst)?;

@@ -1,8 +1,8 @@
 -- The two texts end with the word `end`, so none that was cut short is one.
 use Rattle.std.proofs.Common.{◌≡◌, ℕ, zero, suc, ◌-◌, ◌*◌, ℤ, Bool, true, false, cond, List, ◌∷◌, ◌++◌, length, nat_lt, Option, Some, None, Result, Ok, Err, is_ok, IsOk, IsErr, refl, ap, inl, inr}
 use Rattle.ct_text.specs.Tokens.{text_of}
-use Rattle.ct_vectors.specs.declared.limits.TheConstants.{ENTRY_LIMIT, COST_LIMIT, COST_ROW_LIMIT, RIGHT_LIMIT}
-use Rattle.ct_input.specs.declared.limits.TheConstants.{INSTANCE_FILE_LIMIT, SESSION_FILE_LIMIT, PHASE_LIMIT, SESSION_LIMIT, REQUEST_LIMIT}
+use Rattle.ct_vectors.specs.declared.limits.TheConstants.{ENTRY_LIMIT, COST_LIMIT, COST_ROW_LIMIT, RIGHT_LIMIT, SESSION_LIMIT}
+use Rattle.ct_input.specs.declared.limits.TheConstants.{INSTANCE_FILE_LIMIT, SESSION_FILE_LIMIT, PHASE_LIMIT, REQUEST_LIMIT}
 use Rattle.ct_input.specs.declared.fault.Fault.{Fault}
 use Rattle.ct_input.specs.Sheet.{◌>>=◌, sheet_of}
 use Rattle.ct_input.specs.Grammar.{Grammar, done, nothing, word, number, signed, fork, barred, only, part, numbers, signeds, if_some, upto, exactly, read}

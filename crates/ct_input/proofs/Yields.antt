@@ -8,8 +8,8 @@ use Rattle.ct_text.specs.declared.place.Place.{Place}
 use Rattle.ct_text.specs.declared.number.NumberFault.{NumberFault}
 use Rattle.ct_text.specs.declared.number.NumberFault.TheVariants.{Spelling, Over}
 use Rattle.ct_text.specs.Numbers.{is_natural, value_of, natural_of, positive, negative, signed_of}
-use Rattle.ct_vectors.specs.declared.limits.TheConstants.{RIGHT_LIMIT}
-use Rattle.ct_input.specs.declared.limits.TheConstants.{PHASE_LIMIT, SESSION_LIMIT, REQUEST_LIMIT}
+use Rattle.ct_vectors.specs.declared.limits.TheConstants.{RIGHT_LIMIT, SESSION_LIMIT}
+use Rattle.ct_input.specs.declared.limits.TheConstants.{PHASE_LIMIT, REQUEST_LIMIT}
 use Rattle.ct_input.specs.declared.fault.Fault.{Fault}
 use Rattle.ct_input.specs.declared.script.Request.{Request}
 use Rattle.ct_input.specs.declared.script.Script.{Script}

@@ -12,8 +12,5 @@ pub const LEDGER_FILE_LIMIT: usize = 67_108_864;
 /// The most phases of a session file.
 pub const PHASE_LIMIT: usize = 64;
 
-/// The most sessions of a phase.
-pub const SESSION_LIMIT: usize = 16;
-
 /// The most requests of a session file.
 pub const REQUEST_LIMIT: usize = 100_000;

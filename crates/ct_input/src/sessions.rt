@@ -8,12 +8,12 @@ ghost use Rattle.ct_input.specs.Script.{IsScript};
 ghost use Rattle.ct_input.specs.Files.{session_file};
 
 use crate::fault::{Fault, InputStop};
-use crate::limits::{PHASE_LIMIT, REQUEST_LIMIT, SESSION_FILE_LIMIT, SESSION_LIMIT};
+use crate::limits::{PHASE_LIMIT, REQUEST_LIMIT, SESSION_FILE_LIMIT};
 use crate::lists::numbers;
 use crate::reader::Reader;
 use crate::script::{Phase, Request, Script};
 use ct_point::Seq;
-use ct_vectors::limits::{GRADE_LIMIT, RIGHT_LIMIT};
+use ct_vectors::limits::{GRADE_LIMIT, RIGHT_LIMIT, SESSION_LIMIT};
 use std::alloc::Global;
 
 #[tactic(auto, using(crate::proofs::Parts::read_part), unfolding(crate::specs::SessionText::request))]

@@ -9,12 +9,13 @@ abbrev pub IsLeastAbove : ℕ → List ℕ → Option ℕ → Type 0
 IsLeastAbove d gs None = (g : ℕ) → Contains gs g → g ≤ d
 IsLeastAbove d gs (Some g) = (d < g) × Contains gs g × ((h : ℕ) → Contains gs h → d < h → g ≤ h)
 
-abbrev lesser_above : Bool → ℕ → Option ℕ → Option ℕ
+-- a number more: the lesser of it and the rest, where it is above
+abbrev pub lesser_above : Bool → ℕ → Option ℕ → Option ℕ
 lesser_above false g rest = rest
 lesser_above true g None = Some g
 lesser_above true g (Some h) = Some (min g h)
 
-least_above-cons : (d g : ℕ) (gs : List ℕ) → least_above d (g ∷ gs) ≡ lesser_above (nat_lt d g) g (least_above d gs)
+pub least_above-cons : (d g : ℕ) (gs : List ℕ) → least_above d (g ∷ gs) ≡ lesser_above (nat_lt d g) g (least_above d gs)
 least_above-cons d g gs = go (nat_lt d g) refl (least_above d gs) refl
   where
     go : (b : Bool) → nat_lt d g ≡ b → (o : Option ℕ) → least_above d gs ≡ o → least_above d (g ∷ gs) ≡ lesser_above (nat_lt d g) g (least_above d gs)

@@ -1,6 +1,7 @@
 -- The columns that entries row after row make.
-use Rattle.std.proofs.Common.{◌≡◌, ℕ, ℤ, ◌+◌, ◌*◌, ◌/◌, ◌≤◌, ◌<◌, ◌⊎◌, inl, inr, subst, All, List, [], ◌∷◌, ◌++◌, length, drop, get_or, set, map, refl, sym, ap, ◌∙◌, arith, zero, suc}
-use Rattle.std.proofs.lemmas.List.{get_or-drop, get_or_past, get_or-map, set-append_left, length-map, length_push}
+use Rattle.std.proofs.Common.{◌≡◌, ℕ, ℤ, ◌+◌, ◌*◌, ◌/◌, ◌≤◌, ◌<◌, ◌⊎◌, inl, inr, ⊎_elim, subst, All, List, [], ◌∷◌, ◌++◌, length, drop, get_or, set, map, refl, sym, ap, ◌∙◌, arith, zero, suc}
+use Rattle.std.proofs.lemmas.Bool.{cases_lt}
+use Rattle.std.proofs.lemmas.List.{get_or-drop, get_or_past, get_or-map, get_or_push, get_or_append_left, set-append_left, length-map, length_push}
 use Rattle.std.proofs.lemmas.List.Elements.{All-drop, All-cons, All-nil, All-map, All-weaker}
 use Rattle.ct_vectors.specs.Vectors.{total, zeros, unit}
 use Rattle.ct_vectors.specs.declared.limits.TheConstants.{ROW_LIMIT, ENTRY_LIMIT}
@@ -26,6 +27,12 @@ pub length-indices : (n : ℕ) → length (indices n) ≡ n
 length-indices zero = refl
 length-indices (suc n) = let push : length (indices n ++ n ∷ []) ≡ length (indices n) + 1 = length_push (indices n) n in
     let rest : length (indices n) ≡ n = length-indices n in omega arith
+
+pub get_or-indices : (n k d : ℕ) → k < n → get_or (indices n) k d ≡ k
+get_or-indices zero k d l = absurd (omega arith)
+get_or-indices (suc n) k d l =
+    ⊎_elim (λ m. get_or_append_left (indices n) (n ∷ []) d k (let e : k < length (indices n) = omega (arith, length-indices n, m) in e) ∙ get_or-indices n k d m)
+    (λ m. get_or_push (indices n) n d k (let e : length (indices n) ≡ k = omega (arith, length-indices n) in e) ∙ (let e : n ≡ k = omega arith in e)) (cases_lt k n)
 
 pub length-columns_of : (m n : ℕ) (es : List ℕ) → length (columns_of m n es) ≡ n
 length-columns_of m n es = length-map (indices n) (λ j. column_of m n j es) ∙ length-indices n

@@ -2,12 +2,13 @@
 use Rattle.std.proofs.Common.{◌≡◌, ℕ, ◌+◌, ◌*◌, ◌<◌, ◌≤◌, ℤ, List, [], ◌∷◌, true, false, nat_eq, length, take, map, get_or, All, sym, ap, ap₂, ◌∙◌, subst, refl, arith, eq-eqb}
 use Rattle.std.proofs.lemmas.Bool.{ne_eqb}
 use Rattle.std.proofs.lemmas.List.{get_or_default}
-use Rattle.std.proofs.lemmas.List.Elements.{All-tail}
+use Rattle.std.proofs.lemmas.List.Elements.{All-tail, All-weaker}
 use Rattle.ct_vectors.specs.Vectors.{total}
-use Rattle.ct_vectors.specs.declared.limits.TheConstants.{ROW_LIMIT, RIGHT_LIMIT, JOB_GRADE_LIMIT}
+use Rattle.ct_vectors.specs.declared.limits.TheConstants.{ROW_LIMIT, RIGHT_LIMIT, GRADE_LIMIT, JOB_GRADE_LIMIT}
 use Rattle.ct_vectors.proofs.Sums.{total-limit}
 use Rattle.ct_order.specs.Costs.{IsCostRow}
 use Rattle.ct_order.specs.Order.{cost_of, art_total_of}
+use Rattle.ct_order.proofs.CostSums.{cost_of-take}
 use Rattle.ct_instance.specs.Answer.{costs_of, outcome_of, answer_of, optimum, infeasible}
 use Rattle.ct_instance.specs.Instance.{Problem, IsInstance, IsRight, IsPoint, column_count, grade_of, degree_of}
 use Rattle.ct_instance.specs.Fiber.{least_of}
@@ -15,12 +16,6 @@ use Rattle.ct_instance.proofs.Degree.{columns, coordinate-le-grade}
 use Rattle.ct_instance.proofs.Fiber.{least_in_fiber}
 
 -- ---- costs
-
--- the cost is that of the first coordinates
-cost_of-take : (row : List ℤ) (p : List ℕ) → cost_of row (take (length row) p) ≡ cost_of row p
-cost_of-take [] p = refl
-cost_of-take (c ∷ cs) [] = refl
-cost_of-take (c ∷ cs) (x ∷ p) = rw (cost_of-take cs p)
 
 -- the costs of a point's first coordinates are each row's cost of the point
 pub costs_of-take : (i : Problem) → IsInstance i → (p : List ℕ) → costs_of i (take (column_count i) p) ≡ map (λ row. cost_of row p) i.cost_rows
@@ -34,19 +29,25 @@ costs_of-take i inst p = by_rows i.cost_rows inst.is_cost_row
 
 -- ---- least points
 
+-- the sum of a right-hand side
+pub right-total : (i : Problem) → IsInstance i → (b : List ℕ) → IsRight i b → All (λ x. x ≤ RIGHT_LIMIT) b → total b ≤ GRADE_LIMIT
+right-total i inst b right limit =
+    let sum : total b ≤ length b * RIGHT_LIMIT = total-limit RIGHT_LIMIT b limit in
+    let most : length b ≤ ROW_LIMIT = subst (λ (m : ℕ). m ≤ ROW_LIMIT) (sym right) inst.row_limit in
+    omega arith
+
 pub least_is_point : (i : Problem) → IsInstance i → (b : List ℕ) → IsRight i b → IsPoint i (least_of i b)
 least_is_point i inst b right = (least_in_fiber i inst b right).point
 
--- the coordinates of a least point are at most the sum of b
-pub least-limit : (i : Problem) → IsInstance i → (b : List ℕ) → IsRight i b → All (λ x. x ≤ RIGHT_LIMIT) b → All (λ x. x ≤ JOB_GRADE_LIMIT) (least_of i b)
+-- the coordinates of a least point
+pub least-limit : (i : Problem) → IsInstance i → (b : List ℕ) → IsRight i b → All (λ x. x ≤ RIGHT_LIMIT) b → All (λ x. x ≤ GRADE_LIMIT) (least_of i b)
 least-limit i inst b right limit k d within =
-    let sum : total b ≤ length b * RIGHT_LIMIT = total-limit RIGHT_LIMIT b limit in
-    let most : length b ≤ ROW_LIMIT = subst (λ (m : ℕ). m ≤ ROW_LIMIT) (sym right) inst.row_limit in
+    let sum : total b ≤ GRADE_LIMIT = right-total i inst b right limit in
     let degree : degree_of i.columns (least_of i b) ≡ b = (least_in_fiber i inst b right).degree in
     let grade : grade_of i.columns (least_of i b) ≡ total b = ap total degree in
     let coordinate : get_or (least_of i b) k 0 ≤ grade_of i.columns (least_of i b) = coordinate-le-grade i.rows i.columns (columns i inst) (least_of i b) k in
-    let small : get_or (least_of i b) k 0 ≤ JOB_GRADE_LIMIT = omega arith in
-    subst (λ (x : ℕ). x ≤ JOB_GRADE_LIMIT) (get_or_default (least_of i b) k 0 d within) small
+    let small : get_or (least_of i b) k 0 ≤ GRADE_LIMIT = omega arith in
+    subst (λ (x : ℕ). x ≤ GRADE_LIMIT) (get_or_default (least_of i b) k 0 d within) small
 
 -- a point that costs of n columns can be asked about
 pub record Fits (n : ℕ) (p : List ℕ) : Type 0 where
@@ -63,7 +64,7 @@ least_fits i inst b right limit p same =
     record {
       some = omega arith;
       most = omega arith;
-      limit = subst (λ (q : List ℕ). All (λ x. x ≤ JOB_GRADE_LIMIT) q) (sym same) (least-limit i inst b right limit);
+      limit = subst (λ (q : List ℕ). All (λ x. x ≤ JOB_GRADE_LIMIT) q) (sym same) (All-weaker (λ (x : ℕ). x ≤ GRADE_LIMIT) (λ (x : ℕ). x ≤ JOB_GRADE_LIMIT) (λ x h. omega arith) (least_of i b) (least-limit i inst b right limit));
     }
 
 -- ---- what a least point answers

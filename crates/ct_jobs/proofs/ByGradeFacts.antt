@@ -24,7 +24,7 @@ use Rattle.ct_jobs.specs.declared.one_grade.OneGrade.{OneGrade}
 use Rattle.ct_jobs.specs.Kept.{pair_of}
 use Rattle.ct_jobs.specs.GradedJobs.{next_grade, of_grade, lesser_of}
 use Rattle.ct_jobs.specs.PairsByGrade.{graded_pair, pairs_in, jobs_in, graded_in, graded_entries}
-use Rattle.ct_jobs.proofs.NextGrades.{lesser_of_assoc, least_above-cons, next_grade-append, of_grade-append}
+use Rattle.ct_jobs.proofs.NextGrades.{lesser_of_assoc, least_above-append, next_grade-append, of_grade-append}
 
 abbrev is_some_of : {X : Type 0} → Option X → Bool
 is_some_of None = false
@@ -122,14 +122,14 @@ lesser_of_same (Some x) = ap Some (omega arith)
 next_of_pairs : (d k : ℕ) (p : ℕ × ℕ) (ps : List (ℕ × ℕ)) → next_grade d (map (graded_pair k) (p ∷ ps)) ≡ least_above d (k ∷ [])
 next_of_pairs d k p [] = refl
 next_of_pairs d k p (q ∷ ps) =
-    least_above-cons d k (map (λ (j : GradedJob). j.grade) (map (graded_pair k) (q ∷ ps))) ∙ ap (lesser_of (least_above d (k ∷ []))) (next_of_pairs d k q ps) ∙
+    least_above-append d (k ∷ []) (map (λ (j : GradedJob). j.grade) (map (graded_pair k) (q ∷ ps))) ∙ ap (lesser_of (least_above d (k ∷ []))) (next_of_pairs d k q ps) ∙
     lesser_of_same (least_above d (k ∷ []))
 
 next_of_keys : (d : ℕ) (es : List (ℕ × OneGrade)) → next_grade d (graded_entries es) ≡ least_above d (keys_of es)
 next_of_keys d [] = refl
 next_of_keys d (e ∷ es) =
     next_grade-append d (graded_in e) (graded_entries es) ∙ ap₂ lesser_of (next_of_pairs d e.0 e.1.first e.1.rest.items) (next_of_keys d es) ∙
-    sym (least_above-cons d e.0 (keys_of es))
+    sym (least_above-append d (e.0 ∷ []) (keys_of es))
 
 is_above : (d g : ℕ) → nat_lt d g ≡ true → least_above d (g ∷ []) ≡ Some g
 is_above d g e = simp e
@@ -147,7 +147,7 @@ lesser_than_one d k y l = go (nat_lt d y) refl
 lesser_than_all : (d k : ℕ) (ks : List ℕ) → AllByRecursion (λ y. nat_cmp k y ≡ Less) ks → lesser_of (Some k) (least_above d ks) ≡ Some k
 lesser_than_all d k [] h = refl
 lesser_than_all d k (y ∷ ks) h =
-    ap (lesser_of (Some k)) (least_above-cons d y ks) ∙ sym (lesser_of_assoc (Some k) (least_above d (y ∷ [])) (least_above d ks)) ∙
+    ap (lesser_of (Some k)) (least_above-append d (y ∷ []) ks) ∙ sym (lesser_of_assoc (Some k) (least_above d (y ∷ [])) (least_above d ks)) ∙
     ap (λ o. lesser_of o (least_above d ks)) (lesser_than_one d k y (ranked k y Less (sym h.0))) ∙ lesser_than_all d k ks h.1
 
 -- the key of the first entry
@@ -160,7 +160,7 @@ next_is_first d es s = next_of_keys d es ∙ least es s
   where
     least : (es : List (ℕ × OneGrade)) → IsStrictlySortedBy nat_cmp (keys_of es) → least_above d (keys_of es) ≡ first_key (entries_between nat_cmp (Excluded d) Unbounded es)
     least [] s = refl
-    least (e ∷ es) s = least_above-cons d e.0 (keys_of es) ∙ go (nat_cmp d e.0) refl (least es (sorted_tail nat_cmp e.0 (keys_of es) s))
+    least (e ∷ es) s = least_above-append d (e.0 ∷ []) (keys_of es) ∙ go (nat_cmp d e.0) refl (least es (sorted_tail nat_cmp e.0 (keys_of es) s))
       where
         not_above : d ≡ e.0 ⊎ e.0 < d → nat_lt d e.0 ≡ false
         not_above (inl h) = le-ltb d e.0 (omega arith)

@@ -15,7 +15,7 @@ use Rattle.ct_instance.specs.Instance.{Problem, grade_of, weighted}
 use Rattle.ct_instance.specs.Made.{indices}
 use Rattle.ct_instance.specs.TestSet.{Binomial}
 use Rattle.ct_instance.specs.Jobs.{the_move, job_grade_of, numbers_after}
-use Rattle.ct_instance.proofs.Entries.{length-indices}
+use Rattle.ct_instance.proofs.Entries.{length-indices, get_or-indices}
 use Rattle.ct_instance.proofs.Degree.{grade-add}
 use Rattle.ct_instance.proofs.Grades.{grade_is_weighted}
 use Rattle.ct_walk.specs.Moves.{MoveList, IsMoveList, IsSmallMove}
@@ -102,18 +102,6 @@ pair_grade_by_support i ms a b e =
     ap (λ x. grade_of i.columns p + x) (grade_by_support i.columns q p) ∙ sym (grade-lcm_is_sum i.columns p q e)
 
 -- ---- places and numbers
-
-get_or-indices : (n k d : ℕ) → k < n → get_or (indices n) k d ≡ k
-get_or-indices zero k d l = absurd (omega arith)
-get_or-indices (suc n) k d l = ⊎_elim (λ m. early m ∙ get_or-indices n k d m) last (cases_lt k n)
-  where
-    early : k < n → get_or (indices n ++ n ∷ []) k d ≡ get_or (indices n) k d
-    early m = get_or_append_left (indices n) (n ∷ []) d k (omega (arith, length-indices n))
-
-    last : n ≤ k → get_or (indices n ++ n ∷ []) k d ≡ k
-    last m =
-        let e : k ≡ length (indices n) + 0 = omega (arith, length-indices n) in
-        ap (λ j. get_or (indices n ++ n ∷ []) j d) e ∙ get_or-append-add (indices n) (n ∷ []) 0 d ∙ omega (arith, length-indices n)
 
 -- a support lies within its head
 pub support_within : (ss p : List ℕ) → All (λ (t : Part). t.place < length p) (support ss p)

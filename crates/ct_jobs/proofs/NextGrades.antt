@@ -5,6 +5,7 @@ use Rattle.std.proofs.lemmas.List.{take_more, map-append}
 use Rattle.std.proofs.lemmas.List.Elements.{filter-append}
 use Rattle.ct_instance.specs.declared.jobs.Job.{Job}
 use Rattle.ct_instance.specs.Versions.{least_above}
+use Rattle.ct_instance.proofs.Above.{lesser_above, least_above-cons}
 use Rattle.ct_jobs.specs.declared.graded.GradedJob.{GradedJob}
 use Rattle.ct_jobs.specs.GradedJobs.{next_grade, of_grade, lesser_of}
 
@@ -14,20 +15,18 @@ lesser_of_assoc (Some x) None c = refl
 lesser_of_assoc (Some x) (Some y) None = refl
 lesser_of_assoc (Some x) (Some y) (Some z) = ap Some (omega arith)
 
-pub least_above-cons : (d g : ℕ) (gs : List ℕ) → least_above d (g ∷ gs) ≡ lesser_of (least_above d (g ∷ [])) (least_above d gs)
-least_above-cons d g gs = go (nat_lt d g) refl (least_above d gs) refl
-  where
-    go : (b : Bool) → nat_lt d g ≡ b → (o : Option ℕ) → least_above d gs ≡ o → least_above d (g ∷ gs) ≡ lesser_of (least_above d (g ∷ [])) (least_above d gs)
-    go true e None f = simp (e, f)
-    go true e (Some h) f = simp (e, f)
-    go false e None f = simp (e, f)
-    go false e (Some h) f = simp (e, f)
+lesser_above-of : (b : Bool) (g : ℕ) (o p : Option ℕ) → lesser_above b g (lesser_of o p) ≡ lesser_of (lesser_above b g o) p
+lesser_above-of false g o p = refl
+lesser_above-of true g None None = refl
+lesser_above-of true g None (Some y) = refl
+lesser_above-of true g (Some x) None = refl
+lesser_above-of true g (Some x) (Some y) = ap Some (omega arith)
 
 pub least_above-append : (d : ℕ) (gs hs : List ℕ) → least_above d (gs ++ hs) ≡ lesser_of (least_above d gs) (least_above d hs)
 least_above-append d [] hs = refl
 least_above-append d (g ∷ gs) hs =
-    least_above-cons d g (gs ++ hs) ∙ ap (lesser_of (least_above d (g ∷ []))) (least_above-append d gs hs) ∙
-    sym (lesser_of_assoc (least_above d (g ∷ [])) (least_above d gs) (least_above d hs)) ∙
+    least_above-cons d g (gs ++ hs) ∙ ap (lesser_above (nat_lt d g) g) (least_above-append d gs hs) ∙
+    lesser_above-of (nat_lt d g) g (least_above d gs) (least_above d hs) ∙
     ap (λ o. lesser_of o (least_above d hs)) (sym (least_above-cons d g gs))
 
 pub next_grade-append : (d : ℕ) (js ks : List GradedJob) → next_grade d (js ++ ks) ≡ lesser_of (next_grade d js) (next_grade d ks)

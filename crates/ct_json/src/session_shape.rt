@@ -10,10 +10,10 @@ use crate::here::Here;
 use crate::number_shapes::{Natural, form};
 use crate::shape::{ListOf, Shaped, each};
 use crate::values::{array, has, member, no_others, object};
-use ct_input::limits::{PHASE_LIMIT, REQUEST_LIMIT, SESSION_LIMIT};
+use ct_input::limits::{PHASE_LIMIT, REQUEST_LIMIT};
 use ct_input::{InputStop, JsonReason, Name, PathStep, Phase, Request, Script};
 use ct_point::Seq;
-use ct_vectors::limits::{GRADE_LIMIT, RIGHT_LIMIT};
+use ct_vectors::limits::{GRADE_LIMIT, RIGHT_LIMIT, SESSION_LIMIT};
 use serde_json::Value;
 use std::alloc::Global;
 

@@ -1,7 +1,7 @@
 -- A ledger text is read line by line: what it owes for the laws of texts.
 use Rattle.std.proofs.Common.{◌≡◌, ℕ, ◌+◌, ◌<◌, ◌≤◌, Bool, true, false, cond, ◌&&◌, eqb, ltb, List, [], ◌∷◌, ◌++◌, length, map, decimal, codes, Ok, Err, refl, sym, ap, subst, ◌∙◌, inl, inr, arith, lit<, lit≤, append_assoc}
 use Rattle.std.specs.Prelude.{All, Result, IfOk}
-use Rattle.std.proofs.lemmas.Bool.{lt-ltb}
+use Rattle.std.proofs.lemmas.Bool.{lt-ltb, and_parts}
 use Rattle.std.proofs.lemmas.Bool.Decides.{nat_tests}
 use Rattle.std.proofs.lemmas.List.{append-nil, map-append, length_push}
 use Rattle.std.proofs.lemmas.List.Elements.{All-nil, All-push, All-head, All-tail, All-from_recursion, recursion_from_All}
@@ -113,13 +113,9 @@ said_move l head tail none = rw (none, map-append move_words l.moves ((head, tai
 
 may_parts : (l : LedgerParts) → may_move l ≡ true → (l.entries ≡ []) × (length l.moves < MOVE_LIMIT)
 may_parts l e =
-    let p = both (eqb (length l.entries) 0) (ltb (length l.moves) MOVE_LIMIT) e in
+    let p = and_parts (eqb (length l.entries) 0) (ltb (length l.moves) MOVE_LIMIT) e in
     (none l.entries p.0, grind (arith, nat_tests))
   where
-    both : (x y : Bool) → (x && y) ≡ true → (x ≡ true) × (y ≡ true)
-    both true y e = (refl, e)
-    both false y e = absurd cc
-
     none : (es : List LedgerEntry) → eqb (length es) 0 ≡ true → es ≡ []
     none [] e = refl
     none (x ∷ es) e = absurd (grind (arith, nat_tests))

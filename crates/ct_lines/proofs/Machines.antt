@@ -7,7 +7,7 @@ use Rattle.std.proofs.lemmas.List.{append-nil, length-append, length-map}
 use Rattle.std.proofs.lemmas.Bool.Decides.{nat_tests}
 use Rattle.ct_text.specs.Pieces.{split}
 use Rattle.ct_text.specs.PiecesLaw.{lacks}
-use Rattle.ct_text.proofs.Splits.{Lack, split-lacks, join-split, split-none}
+use Rattle.ct_text.proofs.Splits.{Lack, split-lacks, join-split, split-none, lacks-cons}
 use Rattle.ct_lines.specs.Texts.{text_of}
 use Rattle.ct_lines.specs.Reading.{◌>>=◌}
 use Rattle.ct_lines.specs.Wording.{Wording, read, Spells, run, Runs, or_fault, read_from}
@@ -15,7 +15,7 @@ use Rattle.ct_lines.specs.FaultLine.{Cause, not_there, stops, past_end, IsFaultL
 use Rattle.ct_lines.specs.declared.stop.TextStop.{TextStop}
 use Rattle.ct_lines.specs.declared.stop.TextStop.TheVariants.{Fault, Memory}
 use Rattle.ct_lines.specs.Stops.{AtFault, Found}
-use Rattle.ct_lines.proofs.TextLines.{AreSpelled, text_of-push, text_of-append, lines_lack, lines_front, line_front, lacks-cons}
+use Rattle.ct_lines.proofs.TextLines.{AreSpelled, text_of-push, text_of-append, lines_lack, lines_front, line_front}
 use Rattle.ct_lines.proofs.Spelling.{Fits, some_same, spells_from_read, read_from_spells}
 
 -- A text is read from a first value on, where each value says what the next line may be.

@@ -8,7 +8,7 @@ use Rattle.std.specs.Char.{is_ascii_digit}
 use Rattle.std.proofs.lemmas.Bool.Decides.{nat_tests}
 use Rattle.ct_lines.proofs.Loops.{no_step_parts}
 use Rattle.std.specs.Str.{bytes_eq}
-use Rattle.std.proofs.lemmas.Bool.{le-leb, leb-true}
+use Rattle.std.proofs.lemmas.Bool.{le-leb, leb-true, and_parts}
 use Rattle.std.proofs.lemmas.Slice.Eq.{bytes_eq-Decides}
 use Rattle.ct_vectors.specs.declared.limits.TheConstants.{GRADE_LIMIT, MOVE_LIMIT}
 use Rattle.ct_text.specs.declared.number.NumberFault.{NumberFault}
@@ -119,10 +119,6 @@ numbers_of (suc count) high (n ∷ ns) left small e h = rw (number_of_decimal 0 
 
 -- ---- a step
 
-both : (x y : Bool) → (x && y) ≡ true → (x ≡ true) × (y ≡ true)
-both true y e = (refl, e)
-both false y e = absurd cc
-
 -- neither a space nor LF stands in a number or between it and its times
 digit_is : (byte d : ℕ) → 57 < byte ⊎ byte < 48 → is_ascii_digit d ≡ true → eqb d byte ≡ false
 digit_is byte d (inl above) h = grind (arith, nat_tests)
@@ -130,7 +126,7 @@ digit_is byte d (inr below) h = grind (arith, nat_tests)
 
 digits_lack : (byte : ℕ) (ds : List ℕ) → 57 < byte ⊎ byte < 48 → AreDigits ds → lacks byte ds ≡ true
 digits_lack byte [] out h = refl
-digits_lack byte (d ∷ ds) out h = let p = both (is_ascii_digit d) (list_all is_ascii_digit ds) h in rw (digit_is byte d out p.0) (digits_lack byte ds out p.1)
+digits_lack byte (d ∷ ds) out h = let p = and_parts (is_ascii_digit d) (list_all is_ascii_digit ds) h in rw (digit_is byte d out p.0) (digits_lack byte ds out p.1)
 
 pub decimal-lacks : (byte n : ℕ) → byte < 48 → n < 10 ^ 64 → lacks byte (decimal n) ≡ true
 decimal-lacks byte n below fits = digits_lack byte (decimal n) (inr below) (decimal_is_digits n fits)
@@ -172,7 +168,7 @@ no_step_word byte others step words out h = differs (decimal step.0) (decimal_is
   where
     differs : (ds : List ℕ) → AreDigits ds → 0 < length ds → bytes_eq (ds ++ (42 ∷ decimal step.1)) (byte ∷ others) ≡ false
     differs [] d some = absurd (omega arith)
-    differs (x ∷ ds) d some = and_left (eqb x byte) (bytes_eq (ds ++ (42 ∷ decimal step.1)) others) (digit_is byte x out (both (is_ascii_digit x) (list_all is_ascii_digit ds) d).0)
+    differs (x ∷ ds) d some = and_left (eqb x byte) (bytes_eq (ds ++ (42 ∷ decimal step.1)) others) (digit_is byte x out (and_parts (is_ascii_digit x) (list_all is_ascii_digit ds) d).0)
 
 steps_of : (steps : List (ℕ × ℕ)) (left : List (List ℕ)) → AllByRecursion IsStep steps → first_step left ≡ None → steps_left (map step_word steps ++ left) ≡ (steps, left)
 steps_of [] left h none = no_step_parts left none
@@ -308,7 +304,7 @@ not_signed size byte others small letter (pos n) left h = differs (decimal n) (d
   where
     differs : (ds : List ℕ) → AreDigits ds → 0 < length ds → bytes_eq ds (byte ∷ others) ≡ false
     differs [] d some = absurd (omega arith)
-    differs (x ∷ ds) d some = and_left (eqb x byte) (bytes_eq ds others) (digit_is byte x (inl letter) (both (is_ascii_digit x) (list_all is_ascii_digit ds) d).0)
+    differs (x ∷ ds) d some = and_left (eqb x byte) (bytes_eq ds others) (digit_is byte x (inl letter) (and_parts (is_ascii_digit x) (list_all is_ascii_digit ds) d).0)
 not_signed size byte others small letter (negsuc n) left h = and_left (eqb 45 byte) (bytes_eq (decimal (suc n)) others) (grind (arith, nat_tests))
 
 -- the same of a number

@@ -4,7 +4,7 @@ use Rattle.std.specs.List.{AllByRecursion, join_with_byte}
 use Rattle.std.proofs.lemmas.Bool.Decides.{nat_tests}
 use Rattle.ct_text.specs.Pieces.{split}
 use Rattle.ct_text.specs.PiecesLaw.{lacks}
-use Rattle.ct_text.proofs.Splits.{Lack, split-join}
+use Rattle.ct_text.proofs.Splits.{Lack, split-join, lacks-cons}
 use Rattle.ct_lines.specs.Texts.{ended, text_of}
 
 -- a line of words, none with a space or an LF
@@ -28,13 +28,6 @@ text_of-push lines words rest =
     rw (text_of-append lines (words ∷ []), append_assoc (text_of lines) (join_with_byte 32 words ++ (10 ∷ [])) rest, append_assoc (join_with_byte 32 words) (10 ∷ []) rest) refl
 
 -- ---- what lacks a byte
-
-pub lacks-cons : (separator byte : ℕ) (piece : List ℕ) → lacks separator (byte ∷ piece) ≡ true → (eqb byte separator ≡ false) × (lacks separator piece ≡ true)
-lacks-cons separator byte piece h = go (eqb byte separator) h
-  where
-    go : (test : Bool) → (not test && lacks separator piece) ≡ true → (test ≡ false) × (lacks separator piece ≡ true)
-    go true h = absurd cc
-    go false h = (refl, h)
 
 pub lacks-append : (separator : ℕ) (xs ys : List ℕ) → lacks separator xs ≡ true → lacks separator ys ≡ true → lacks separator (xs ++ ys) ≡ true
 lacks-append separator [] ys h k = k

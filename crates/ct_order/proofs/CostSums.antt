@@ -1,6 +1,6 @@
 -- Costs place by place, and how large they grow.
 use Rattle.ct_vectors.specs.declared.limits.TheConstants.{ROW_LIMIT, COST_LIMIT, JOB_GRADE_LIMIT}
-use Rattle.std.proofs.Common.{◌≡◌, ℕ, ℤ, pos, ◌+ℤ◌, ◌*ℤ◌, ◌+◌, ◌-◌, ◌*◌, ◌≤◌, ◌<◌, All, List, ◌∷◌, length, drop, get_or, sym, ap, ◌∙◌, arith, nat_abs}
+use Rattle.std.proofs.Common.{◌≡◌, ℕ, ℤ, pos, ◌+ℤ◌, ◌*ℤ◌, ◌+◌, ◌-◌, ◌*◌, ◌≤◌, ◌<◌, All, List, [], ◌∷◌, length, take, drop, get_or, refl, sym, ap, ◌∙◌, arith, nat_abs}
 use Rattle.std.proofs.Math.IntN.{+ℤ_assoc}
 use Rattle.std.proofs.lemmas.List.{drop_more, length-drop}
 use Rattle.std.proofs.lemmas.List.Elements.{All-drop}
@@ -31,6 +31,12 @@ cost_more sum cs p i in-cs in-p =
     +ℤ_assoc sum (get_or cs i (pos 0) *ℤ pos (get_or p i 0)) (cost_of (drop (i + 1) cs) (drop (i + 1) p)) ∙
     ap (λ z. sum +ℤ z) (sym (ap (λ l. cost_of l (drop i p)) (drop_more cs i (pos 0) in-cs) ∙
     ap (λ l. cost_of (get_or cs i (pos 0) ∷ drop (i + 1) cs) l) (drop_more p i 0 in-p)))
+
+-- the cost is that of the first coordinates
+pub cost_of-take : (row : List ℤ) (p : List ℕ) → cost_of row (take (length row) p) ≡ cost_of row p
+cost_of-take [] p = refl
+cost_of-take (c ∷ cs) [] = refl
+cost_of-take (c ∷ cs) (x ∷ p) = rw (cost_of-take cs p)
 
 -- the artificials of a point whose coordinates are within the limit
 pub artificials-limit : (n : ℕ) (p : List ℕ) → length p ≤ n + ROW_LIMIT → All (λ x. x ≤ JOB_GRADE_LIMIT) p → total (drop n p) ≤ ROW_LIMIT * JOB_GRADE_LIMIT

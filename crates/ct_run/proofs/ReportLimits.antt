@@ -4,7 +4,7 @@ use Rattle.std.specs.List.{flat_map}
 use Rattle.std.proofs.lemmas.List.{length-map, length-take-le}
 use Rattle.std.proofs.lemmas.List.Elements.{All-nil, All-cons, All-head, All-tail, All-append, All-map, All-take, All-weaker}
 use Rattle.std.proofs.lemmas.Int.{ints, unsigned_abs-mul}
-use Rattle.ct_vectors.specs.declared.limits.TheConstants.{COLUMN_LIMIT, COST_ROW_LIMIT, COST_LIMIT, RIGHT_LIMIT, MOVE_LIMIT, GRADE_LIMIT, JOB_GRADE_LIMIT}
+use Rattle.ct_vectors.specs.declared.limits.TheConstants.{COLUMN_LIMIT, COST_ROW_LIMIT, COST_LIMIT, RIGHT_LIMIT, MOVE_LIMIT, GRADE_LIMIT, JOB_GRADE_LIMIT, SESSION_LIMIT}
 use Rattle.ct_vectors.specs.Vectors.{total}
 use Rattle.ct_order.specs.Costs.{IsCostRow}
 use Rattle.ct_order.specs.Order.{art_total_of, cost_of}
@@ -17,6 +17,7 @@ use Rattle.ct_instance.specs.Reach.{grade_after as next_grade, first_version_fro
 use Rattle.ct_instance.proofs.Degree.{columns, total-le-grade, start_is_point}
 use Rattle.ct_instance.proofs.Fiber.{least_in_fiber}
 use Rattle.ct_instance.proofs.TestList.{is_test_list}
+use Rattle.ct_instance.proofs.Points.{right-total, least_is_point, least-limit}
 use Rattle.ct_walk.specs.Moves.{IsMoveList}
 use Rattle.ct_walk.proofs.WalkFacts.{test_list_moves}
 use Rattle.ct_checker.proofs.WithinLimits.{walk_within}
@@ -28,14 +29,13 @@ use Rattle.ct_input.specs.declared.script.Request.{Request}
 use Rattle.ct_input.specs.declared.script.Request.TheVariants.{Ask, Solve}
 use Rattle.ct_input.specs.declared.script.Phase.{Phase}
 use Rattle.ct_input.specs.declared.script.Script.{Script}
-use Rattle.ct_input.specs.declared.limits.TheConstants.{SESSION_LIMIT}
 use Rattle.ct_input.specs.Script.{IsRequest, IsPhase as IsScriptPhase, IsScript}
 use Rattle.ct_version.specs.declared.answers.Answer.{Answer}
 use Rattle.ct_version.specs.declared.answers.Answer.TheVariants.{Optimum, Infeasible}
 use Rattle.ct_version.specs.declared.finished.Finished.{Finished}
 use Rattle.ct_version.specs.declared.finished.Finished.TheVariants as told_levels
 use Rattle.ct_version.specs.Answers.{outcome_seen}
-use Rattle.ct_version.proofs.Walked.{right-total, start-grade, least_is_point, least-limit}
+use Rattle.ct_version.proofs.Walked.{start-grade}
 use Rattle.ct_session.specs.declared.lines.Line.{Line}
 use Rattle.ct_session.specs.declared.lines.Line.TheVariants.{Answered, NotYet, Full}
 use Rattle.ct_session.specs.Lines.{IsWalkShown, IsAnsweredLine, IsFullOrAnswered}

@@ -3,15 +3,8 @@ use Rattle.std.proofs.Common.{ℕ, ◌+◌, ◌≡◌, zero, suc, List, [], ◌�
 use Rattle.std.proofs.lemmas.List.{length-append, length-map}
 use Rattle.std.proofs.lemmas.List.Elements.{All-map, All-pop}
 use Rattle.ct_instance.specs.Made.{indices}
+use Rattle.ct_instance.proofs.Entries.{length-indices}
 use Rattle.ct_host.specs.Hosts.{HostSeen, PassSeen, IsOfHost, fresh_pass}
-
-length-indices : (n : ℕ) → length (indices n) ≡ n
-length-indices zero = refl
-length-indices (suc n) =
-    let more : length (indices n ++ n ∷ []) ≡ length (indices n) + 1 = length-append (indices n) (n ∷ []) in
-    let rest : length (indices n) ≡ n = length-indices n in
-    let all : length (indices n ++ n ∷ []) ≡ suc n = omega (arith, more, rest) in
-    all
 
 pub opened_count : (host : HostSeen) (n : ℕ) → length (map (fresh_pass host.key) (indices n)) ≡ n
 opened_count host n = length-map (indices n) (fresh_pass host.key) ∙ length-indices n

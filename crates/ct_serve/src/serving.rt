@@ -1,8 +1,7 @@
 //! A script is served.
 ghost use Rattle.std.specs.Prelude.{◌≡◌, ◌≤◌, ◌+◌, max, All, IfOk, length, vec_len};
 ghost use Rattle.std.specs.Arc.{arc_value};
-ghost use Rattle.ct_vectors.specs.declared.limits.TheConstants.{MOVE_LIMIT, WORKER_LIMIT};
-ghost use Rattle.ct_input.specs.declared.limits.TheConstants.{SESSION_LIMIT};
+ghost use Rattle.ct_vectors.specs.declared.limits.TheConstants.{MOVE_LIMIT, WORKER_LIMIT, SESSION_LIMIT, PASS_LIMIT};
 ghost use Rattle.ct_input.specs.Script.{IsPhase, IsScript};
 ghost use Rattle.ct_version.specs.Editions.{level_seen};
 ghost use Rattle.ct_book.specs.Benches.{desk_place};
@@ -109,7 +108,7 @@ fn opened(
     requires some { 1 ≤ limit }
     requires most { limit ≤ MOVE_LIMIT }
     requires some_pass { 1 ≤ count }
-    requires few_passes { count ≤ 33 }
+    requires few_passes { count ≤ PASS_LIMIT }
     ensures instance { IfOk result (λ r. r.0.place.instance ≡ arc_value inst) }
     ensures limit { IfOk result (λ r. r.0.place.limit ≡ limit) }
     ensures main { IfOk result (λ r. IsOfHost r.0 r.1) }

@@ -2,13 +2,13 @@
 use Rattle.std.proofs.Common.{◌≡◌, inl, ℕ, ◌/◌, ◌%◌, ◌<◌, max, List, Result, Ok, Err, IfOk, IfErr, refl, sym, subst, arith, eq-eqb}
 use Rattle.ct_instance.specs.Instance.{Problem, IsRight, IsPoint}
 use Rattle.ct_instance.specs.Fiber.{least_of}
+use Rattle.ct_instance.proofs.Points.{least_is_point}
 use Rattle.ct_version.specs.declared.answers.AnswerKind.{AnswerKind}
 use Rattle.ct_version.specs.declared.answers.Answered.{Answered}
 use Rattle.ct_version.specs.declared.stops.NotYet.{NotYet}
 use Rattle.ct_version.specs.Editions.{Edition, IsEdition}
 use Rattle.ct_version.specs.Answers.{IsAnswered}
 use Rattle.ct_version.specs.Desks.{raised}
-use Rattle.ct_version.proofs.Walked.{least_is_point}
 use Rattle.ct_session.specs.Sessions.{newest, IsRepinned}
 
 refused_pin : (held word before after : ℕ) → word % 2 ≡ 0 → held < word / 2 → after ≡ raised before → IsRepinned held word before after held

@@ -5,12 +5,12 @@ use Rattle.ct_vectors.specs.declared.limits.TheConstants.{RIGHT_LIMIT, GRADE_LIM
 use Rattle.ct_instance.specs.Instance.{Problem, IsInstance, IsRight}
 use Rattle.ct_instance.specs.Versions.{Level, upto, everything, Covers, level_of, IsFullGrade}
 use Rattle.ct_instance.specs.Reach.{full_grade_up_to}
+use Rattle.ct_instance.proofs.Points.{right-total}
 use Rattle.ct_version.specs.Editions.{Edition, IsEdition}
 use Rattle.ct_version.specs.Answers.{IsNotYet}
 use Rattle.ct_version.specs.Desks.{Place, IsOfPlace}
 use Rattle.ct_levels.proofs.Levels.{levels_rise}
 use Rattle.ct_levels.proofs.Full.{below_full, full_some, no_full_within}
-use Rattle.ct_version.proofs.Walked.{right-total}
 use Rattle.ct_session.specs.Sessions.{IsOpenTo, IsFullAt}
 
 -- the sum of a right-hand side

@@ -4,7 +4,7 @@ use Rattle.std.specs.Prelude.{unsigned_abs}
 use Rattle.std.specs.Fmt.{signed_decimal}
 use Rattle.std.specs.List.{list_all}
 use Rattle.std.specs.Char.{is_ascii_digit}
-use Rattle.std.proofs.lemmas.Bool.{le-leb, leb-true}
+use Rattle.std.proofs.lemmas.Bool.{le-leb, leb-true, and_parts}
 use Rattle.std.proofs.lemmas.Bool.Decides.{nat_tests}
 use Rattle.std.proofs.lemmas.List.{append-nil}
 use Rattle.std.proofs.lemmas.Str.Parse.{IsNumeralModel, numerals_by_fold}
@@ -19,10 +19,6 @@ AreDigits ds = list_all is_ascii_digit ds ≡ true
 
 own : IsNumeralModel AreDigits value_of
 own = numerals_by_fold AreDigits (search rules) value_after (search rules)
-
-both : (x y : Bool) → (x && y) ≡ true → (x ≡ true) × (y ≡ true)
-both true y e = (refl, e)
-both false y e = absurd cc
 
 digit_bounds : (d : ℕ) → is_ascii_digit d ≡ true → (48 ≤ d) × (d ≤ 57)
 digit_bounds d h = (grind (arith, nat_tests), grind (arith, nat_tests))
@@ -74,7 +70,7 @@ natural_of_decimal n fits =
 decimal_more : (n : ℕ) (ds : List ℕ) → 0 < n → AreDigits ds → value_after n ds < 10 ^ 64 → decimal (value_after n ds) ≡ decimal n ++ ds
 decimal_more n [] some h fits = sym (append-nil (decimal n))
 decimal_more n (d ∷ ds) some h fits =
-    let parts = both (is_ascii_digit d) (list_all is_ascii_digit ds) h in
+    let parts = and_parts (is_ascii_digit d) (list_all is_ascii_digit ds) h in
     let bounds = digit_bounds d parts.0 in
     let m = n * 10 + (d - 48) in
     let least : m ≤ value_after m ds = value_after-ge m ds in
@@ -97,7 +93,7 @@ decimal_of_spelling (first ∷ others) h fits = go (eqb first 48) refl h fits
         let none : others ≡ [] = nothing_left others (grind (arith, nat_tests)) in
         rw (is, none) (decimal_digit 0 (lit< tt))
     go false other h fits =
-        let parts = both (is_ascii_digit first) (list_all is_ascii_digit others) h in
+        let parts = and_parts (is_ascii_digit first) (list_all is_ascii_digit others) h in
         let bounds = digit_bounds first parts.0 in
         let no : first ≢ 48 = grind (arith, nat_tests) in
         let n = 0 * 10 + (first - 48) in
@@ -162,7 +158,7 @@ signed_decimal_from_signed text limit z small e = go (eqb (get_or text 0 0) 45) 
 
 no_minus : (ds : List ℕ) → AreDigits ds → eqb (get_or ds 0 0) 45 ≡ false
 no_minus [] h = refl
-no_minus (d ∷ ds) h = let bounds = digit_bounds d (both (is_ascii_digit d) (list_all is_ascii_digit ds) h).0 in grind (arith, nat_tests)
+no_minus (d ∷ ds) h = let bounds = digit_bounds d (and_parts (is_ascii_digit d) (list_all is_ascii_digit ds) h).0 in grind (arith, nat_tests)
 
 pub signed_from_signed_decimal : (text : List ℕ) (limit : ℕ) (z : ℤ) → limit < 2 ^ 128 → (text ≡ signed_decimal z) × (unsigned_abs z ≤ limit) → signed_of text limit ≡ Ok z
 unfolding signed_of

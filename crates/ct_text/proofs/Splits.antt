@@ -79,7 +79,7 @@ split-lacks separator (byte ∷ bytes) = elim (cases_Bool (eqb byte separator)) 
 pub join-split : (separator : ℕ) (bytes : List ℕ) → join_with_byte separator (split separator bytes) ≡ bytes
 join-split separator bytes = join_with_byte-slice_split separator bytes
 
-lacks-cons : (separator byte : ℕ) (piece : List ℕ) → lacks separator (byte ∷ piece) ≡ true → (eqb byte separator ≡ false) × (lacks separator piece ≡ true)
+pub lacks-cons : (separator byte : ℕ) (piece : List ℕ) → lacks separator (byte ∷ piece) ≡ true → (eqb byte separator ≡ false) × (lacks separator piece ≡ true)
 lacks-cons separator byte piece h = go (eqb byte separator) h
   where
     go : (test : Bool) → (not test && lacks separator piece) ≡ true → (test ≡ false) × (lacks separator piece ≡ true)

@@ -4,6 +4,7 @@ use Rattle.std.specs.Prelude.{count_by}
 use Rattle.std.specs.List.{list_all, take_while}
 use Rattle.std.proofs.lemmas.Bool.Decides.{nat_tests}
 use Rattle.std.proofs.lemmas.List.Sums.{take_while-cons, sum_by-cons}
+use Rattle.std.proofs.lemmas.Bool.{and_parts}
 use Rattle.ct_text.specs.declared.place.Place.{Place}
 use Rattle.ct_text.specs.Place.{past, place_after}
 use Rattle.ct_text.specs.Tokens.{Lexeme, Mode, between, inside, comment, mode_after, is_plain, begins, tokens_in, text_of}
@@ -48,12 +49,8 @@ run_is : (text after : List ℕ) → list_all is_plain text ≡ true → begins_
 run_is [] [] h ends = refl
 run_is [] (b ∷ after) h ends = rw (take_while-cons is_plain b after, ends) refl
 run_is (b ∷ text) after h ends =
-    let parts = both (is_plain b) (list_all is_plain text) h in
+    let parts = and_parts (is_plain b) (list_all is_plain text) h in
     rw (take_while-cons is_plain b (text ++ after), parts.0) (ap (λ (xs : List ℕ). b ∷ xs) (run_is text after parts.1 ends))
-  where
-    both : (x y : Bool) → (x && y) ≡ true → (x ≡ true) × (y ≡ true)
-    both true y e = (refl, e)
-    both false y e = absurd cc
 
 -- ---- from the list to the text
 

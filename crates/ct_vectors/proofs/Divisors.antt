@@ -1,5 +1,8 @@
 -- The order in each coordinate, the least common multiple, and disjoint points.
 use Rattle.std.proofs.Common.{ℕ, ◌*◌, ◌≤◌, ◌≡◌, ◌⊎◌, inl, inr, ⊎_elim, max, Bool, true, false, nat_eq, nat_le, ◌||◌, Decides, List, [], ◌∷◌, length, get_or, refl, sym, ◌∙◌, subst, arith, zero, suc, true≢false, leb-true, le-leb, eqb-true, eq-eqb, mul-le-mul_right, mul-le-mul_left}
+use Rattle.std.specs.Cmp.Lexicographic.{pointwise}
+use Rattle.std.proofs.lemmas.Bool.Decides.{Decides-eqb}
+use Rattle.std.proofs.lemmas.Slice.Eq.{slice_eq-Decides}
 use Rattle.std.proofs.lemmas.Bool.{and_parts, and_from, or_cases, or_left, or_right}
 use Rattle.ct_vectors.specs.Vectors.{total, add, subtract, scale, lcm, zeros, Divides, divides, Disjoint, disjoint}
 use Rattle.ct_vectors.proofs.Sums.{cons_same, add-nil, total-scale}
@@ -26,6 +29,9 @@ dec_divides h p = go (divides h p) refl
     go : (b : Bool) → divides h p ≡ b → Divides h p ⊎ (Divides h p → ⊥)
     go true e = inl (Divides-from_test h p e)
     go false e = inr (λ d. true≢false (sym (test_from_Divides h p d) ∙ e))
+
+pub Decides-same_numbers : (p q : List ℕ) → Decides (pointwise nat_eq p q) (p ≡ q)
+Decides-same_numbers p q = slice_eq-Decides Decides-eqb p q (pointwise nat_eq p q) refl
 
 -- ---- the order
 

@@ -32,3 +32,9 @@ pub const MOVE_LIMIT: usize = 4_096;
 
 /// The greatest number of workers that complete a test set beside each other.
 pub const WORKER_LIMIT: u64 = 16;
+
+/// The most sessions of a phase.
+pub const SESSION_LIMIT: usize = 16;
+
+/// The most passes of a host: one for each worker and for each session of a phase, and one for the main part.
+pub const PASS_LIMIT: u32 = 1 + WORKER_LIMIT as u32 + SESSION_LIMIT as u32;

@@ -13,31 +13,12 @@ use Rattle.ct_version.specs.Editions.{Edition, IsEdition}
 use Rattle.ct_levels.proofs.Walks.{version_walk, version_walk_end}
 use Rattle.ct_instance.proofs.Degree.{columns, coordinate-le-grade, degree-start, start_is_point}
 use Rattle.ct_instance.proofs.Fiber.{least_in_fiber}
+use Rattle.ct_instance.proofs.Points.{right-total, least_is_point, least-limit}
 use Rattle.ct_vectors.proofs.Sums.{total-limit}
-
--- the sum of a right-hand side
-pub right-total : (i : Problem) → IsInstance i → (b : List ℕ) → IsRight i b → All (λ x. x ≤ RIGHT_LIMIT) b → total b ≤ GRADE_LIMIT
-right-total i inst b right limit =
-    let sum : total b ≤ length b * RIGHT_LIMIT = total-limit RIGHT_LIMIT b limit in
-    let most : length b ≤ ROW_LIMIT = subst (λ (m : ℕ). m ≤ ROW_LIMIT) (sym right) inst.row_limit in
-    omega arith
 
 pub start-grade : (i : Problem) → IsInstance i → (b : List ℕ) → IsRight i b → All (λ x. x ≤ RIGHT_LIMIT) b → grade_of i.columns (start_of i b) ≤ GRADE_LIMIT
 start-grade i inst b right limit =
     subst (λ (d : List ℕ). total d ≤ GRADE_LIMIT) (sym (degree-start i inst b right)) (right-total i inst b right limit)
-
-pub least_is_point : (i : Problem) → IsInstance i → (b : List ℕ) → IsRight i b → IsPoint i (least_of i b)
-least_is_point i inst b right = (least_in_fiber i inst b right).point
-
--- the coordinates of a least point
-pub least-limit : (i : Problem) → IsInstance i → (b : List ℕ) → IsRight i b → All (λ x. x ≤ RIGHT_LIMIT) b → All (λ x. x ≤ GRADE_LIMIT) (least_of i b)
-least-limit i inst b right limit k d within =
-    let sum : total b ≤ GRADE_LIMIT = right-total i inst b right limit in
-    let degree : degree_of i.columns (least_of i b) ≡ b = (least_in_fiber i inst b right).degree in
-    let grade : grade_of i.columns (least_of i b) ≡ total b = ap total degree in
-    let coordinate : get_or (least_of i b) k 0 ≤ grade_of i.columns (least_of i b) = coordinate-le-grade i.rows i.columns (columns i inst) (least_of i b) k in
-    let small : get_or (least_of i b) k 0 ≤ GRADE_LIMIT = omega arith in
-    subst (λ (x : ℕ). x ≤ GRADE_LIMIT) (get_or_default (least_of i b) k 0 d within) small
 
 -- what a walk of (0, b) tells, and where it ends
 pub record Found (i : Problem) (b : List ℕ) (steps : List (ℕ × ℕ)) (q : List ℕ) : Type 0 where

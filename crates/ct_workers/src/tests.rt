@@ -1,6 +1,6 @@
 //! Workers at hosts of coins of 3 and 5 at cost 2 and 3.
 ghost use Rattle.std.specs.Prelude.{◌≡◌, ◌≤◌, map};
-ghost use Rattle.ct_vectors.specs.declared.limits.TheConstants.{GRADE_LIMIT, MOVE_LIMIT};
+ghost use Rattle.ct_vectors.specs.declared.limits.TheConstants.{GRADE_LIMIT, MOVE_LIMIT, PASS_LIMIT};
 ghost use Rattle.ct_instance.specs.Made.{indices};
 ghost use Rattle.ct_host.specs.Hosts.{IsOfHost, fresh_pass};
 
@@ -21,7 +21,7 @@ fn coins(rt: &impl Abort, alloc: Global, limit: u32, passes: u32) -> (Host, Vec<
     requires some { 1 ≤ limit }
     requires most { limit ≤ MOVE_LIMIT }
     requires some_pass { 1 ≤ passes }
-    requires passes { passes ≤ 33 }
+    requires passes { passes ≤ PASS_LIMIT }
     ensures passes { result.1.items ≡ map (fresh_pass result.0.key) (indices passes) }
 {
     let inst = Instance::new(alloc, 1, 2, &[3, 5], &[2, 3]).expect(rt, "an instance");

@@ -1,7 +1,7 @@
 use Rattle.std.proofs.Common.{◌≡◌, ◌-◌, ◌+◌, suc, length, Ok, sym, refl, arith, [], codes}
 use Rattle.std.proofs.lemmas.Result.{err_from_is_err_and}
 use Rattle.std.proofs.lemmas.List.Sums.{sum_by_push}
-use Rattle.ct_input.specs.declared.limits.TheConstants.{SESSION_LIMIT}
+use Rattle.ct_vectors.specs.declared.limits.TheConstants.{SESSION_LIMIT}
 use Rattle.ct_input.specs.Grammar.{read, barred_at}
 use Rattle.ct_input.specs.SessionText.{session, no_session, sessions}
 use Rattle.ct_input.proofs.Loops.{loop_err, loop_end, loop_more, over_err, over_end, Fails_bind}

@@ -1,5 +1,5 @@
 use Rattle.std.proofs.Common.{◌≡◌, ◌-◌}
-use Rattle.ct_input.specs.declared.limits.TheConstants.{SESSION_LIMIT}
+use Rattle.ct_vectors.specs.declared.limits.TheConstants.{SESSION_LIMIT}
 use Rattle.ct_input.specs.Grammar.{read}
 use Rattle.ct_input.specs.SessionText.{sessions, sessions_up_to, request_count}
 use Rattle.ct_input.proofs.Loops.{with_front}

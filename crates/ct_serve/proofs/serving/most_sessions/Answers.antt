@@ -1,5 +1,5 @@
 use Rattle.std.proofs.Common.{◌<◌, ◌≤◌, ◌≡◌, max, length, ap, arith}
-use Rattle.ct_input.specs.declared.limits.TheConstants.{SESSION_LIMIT}
+use Rattle.ct_vectors.specs.declared.limits.TheConstants.{SESSION_LIMIT}
 use Rattle.ct_input.specs.declared.script.Phase.{Phase}
 use Rattle.ct_answer.proofs.Pairing.{at_item}
 use Rattle.ct_serve.proofs.ServedPhases.{most_more}

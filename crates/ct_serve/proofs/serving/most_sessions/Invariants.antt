@@ -1,5 +1,5 @@
 use Rattle.std.proofs.Common.{◌≤◌, All, length, take}
-use Rattle.ct_input.specs.declared.limits.TheConstants.{SESSION_LIMIT}
+use Rattle.ct_vectors.specs.declared.limits.TheConstants.{SESSION_LIMIT}
 use Rattle.ct_serve.proofs.serving.most_sessions.Given as goal
 
 abbrev pub invariant-loop-phase : goal.invariant-loop-phase

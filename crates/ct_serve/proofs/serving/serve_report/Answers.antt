@@ -1,7 +1,7 @@
 use Rattle.std.proofs.Common.{◌≤◌, All, length, sym, subst}
 use Rattle.std.specs.Arc.{arc_value}
 use Rattle.std.proofs.lemmas.List.Elements.{All-weaker}
-use Rattle.ct_input.specs.declared.limits.TheConstants.{SESSION_LIMIT}
+use Rattle.ct_vectors.specs.declared.limits.TheConstants.{SESSION_LIMIT}
 use Rattle.ct_input.specs.declared.script.Phase.{Phase}
 use Rattle.ct_input.specs.Script.{IsPhase}
 use Rattle.ct_serve.proofs.serving.serve_report.Goals as goal

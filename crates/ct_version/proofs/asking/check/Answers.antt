@@ -2,7 +2,7 @@ use Rattle.std.proofs.Common.{◌≤◌, sym, subst, arith}
 use Rattle.ct_vectors.specs.declared.limits.TheConstants.{GRADE_LIMIT}
 use Rattle.ct_vectors.specs.Vectors.{total}
 use Rattle.ct_instance.specs.Versions.{Level, Covers}
-use Rattle.ct_version.proofs.Walked.{right-total}
+use Rattle.ct_instance.proofs.Points.{right-total}
 use Rattle.ct_version.proofs.asking.check.Goals as goal
 
 pub sum-requires : goal.sum-requires

@@ -8,7 +8,7 @@ use Rattle.std.proofs.lemmas.List.Elements.{All-nil, All-push, All-head, All-tai
 use Rattle.ct_vectors.specs.declared.limits.TheConstants.{GRADE_LIMIT, MOVE_LIMIT}
 use Rattle.ct_instance.specs.declared.jobs.Job.{Job}
 use Rattle.ct_instance.specs.declared.jobs.Job.TheVariants.{Generator, Pair}
-use Rattle.ct_lines.specs.Texts.{text_of, IsStep, step_word, walk_words}
+use Rattle.ct_lines.specs.Texts.{text_of, IsStep, step_word, walk_words, end_words}
 use Rattle.ct_lines.specs.Reading.{is_next, step_of}
 use Rattle.ct_lines.specs.Wording.{Wording, barred, Spells, Runs, read_from}
 use Rattle.ct_lines.specs.FaultLine.{IsFaultLine}
@@ -16,14 +16,15 @@ use Rattle.ct_lines.specs.declared.stop.TextStop.{TextStop}
 use Rattle.ct_lines.specs.Stops.{AtFault, Found}
 use Rattle.ct_text.specs.Pieces.{split}
 use Rattle.ct_lines.proofs.TextLines.{IsSpelled, AreSpelled}
-use Rattle.ct_lines.proofs.Spelling.{Fits, no_step_word, AreWords, words_append, word_decimal, words_numbers, words_walk, spelled_line}
+use Rattle.ct_lines.proofs.Spelling.{Fits, fits_if, spells_if, no_step_word}
+use Rattle.ct_lines.proofs.LineWords.{AreWords, words_append, word_decimal, words_numbers, words_walk, spelled_line, spelled_append}
 use Rattle.ct_lines.proofs.Machines.{Machine, Runs-append, one_value, ok_from_found, fault_from_found}
 use Rattle.ct_ledger.specs.declared.entries.LedgerEntry.{LedgerEntry}
 use Rattle.ct_ledger.specs.declared.entries.LedgerEntry.TheVariants.{Coprime, Walks}
 use Rattle.ct_ledger.specs.declared.stage.Stage.{Stage}
 use Rattle.ct_ledger.specs.declared.stage.Stage.TheVariants.{Title, Size, Grade, Body, Closed}
 use Rattle.ct_ledger.specs.Parts.{LedgerParts, IsLedgerPair, AreSteps, HasNumbers, IsEntry, IsLedger}
-use Rattle.ct_ledger.specs.LedgerText.{title_words, size_words, grade_words, move_words, job_words, entry_words, end_words, head_lines, body_lines, ledger_lines, ledger_text, IsLedgerText}
+use Rattle.ct_ledger.specs.LedgerText.{title_words, size_words, grade_words, move_words, job_words, entry_words, head_lines, body_lines, ledger_lines, ledger_text, IsLedgerText}
 use Rattle.ct_ledger.specs.Grammar.{with_move, with_entry, may_move, move_line, walks_line, pair_line, body_line, next_line, is_closed, HasSize}
 
 -- the lines that were read so far
@@ -42,10 +43,6 @@ Good (Body l) = IsLedger l
 Good (Closed l) = IsLedger l
 
 -- ---- the limits of numbers fit
-
-fits_if : (b : Bool) (g : Wording Stage) → Fits g → Fits (cond b g barred)
-fits_if true g h = h
-fits_if false g h = tt
 
 in_limits : (s : Stage) → Fits (next_line s)
 unfolding move_line walks_line pair_line body_line
@@ -183,10 +180,6 @@ spells_size rows columns h = (decimal rows ∷ decimal columns ∷ [], refl, (ro
 spells_grade : (rows columns grade : ℕ) → grade ≤ GRADE_LIMIT → Spells (next_line (Grade rows columns)) (grade_words grade) (Body (empty_ledger rows columns grade))
 spells_grade rows columns grade h = (decimal grade ∷ [], refl, (grade, [], refl, omega arith, h, (refl, refl)))
 
-if_may : (b : Bool) (g : Wording Stage) (words : List (List ℕ)) (t : Stage) → b ≡ true → Spells g words t → Spells (cond b g barred) words t
-if_may true g words t may h = h
-if_may false g words t may h = absurd cc
-
 spells_move : (l : LedgerParts) (m : List ℕ × List ℕ) → may_move l ≡ true → IsLedgerPair l.columns l.rows m → Spells (body_line l) (move_words m) (Body (with_move l m.0 m.1))
 unfolding body_line move_line
 spells_move l m may h =
@@ -196,7 +189,7 @@ spells_move l m may h =
     inl (
       rest,
       refl,
-      if_may (may_move l) (move_line l) rest (Body (with_move l m.0 m.1)) may
+      spells_if (may_move l) (move_line l) rest (Body (with_move l m.0 m.1)) may
           (m.0, codes "to" ∷ map decimal m.1, refl, h.head.numbers, heads, (map decimal m.1, refl, (m.1, [], sym (append-nil (map decimal m.1)), h.tail.numbers, tails, (refl, refl)))),
     )
 
@@ -299,10 +292,6 @@ spelled_moves columns rows (m ∷ moves) h = (spelled_move columns rows m (All-h
 spelled_entries : (entries : List LedgerEntry) → All IsEntry entries → AreSpelled (map entry_words entries)
 spelled_entries [] h = tt
 spelled_entries (entry ∷ entries) h = (spelled_entry entry (All-head IsEntry entry entries h), spelled_entries entries (All-tail IsEntry entry entries h))
-
-spelled_append : (xs ys : List (List (List ℕ))) → AreSpelled xs → AreSpelled ys → AreSpelled (xs ++ ys)
-spelled_append [] ys h k = k
-spelled_append (x ∷ xs) ys h k = (h.0, spelled_append xs ys h.1 k)
 
 spelled_body : (l : LedgerParts) → IsLedger l → AreSpelled (body_lines l)
 spelled_body l h = (

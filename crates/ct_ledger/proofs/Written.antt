@@ -3,18 +3,11 @@ use Rattle.std.proofs.Common.{◌≡◌, ℕ, List, [], ◌∷◌, ◌++◌, map
 use Rattle.std.proofs.lemmas.List.{append-nil}
 use Rattle.ct_instance.specs.declared.jobs.Job.{Job}
 use Rattle.ct_instance.specs.declared.jobs.Job.TheVariants.{Generator, Pair}
-use Rattle.ct_lines.specs.Texts.{text_of, walk_words, spaced}
+use Rattle.ct_lines.specs.Texts.{text_of, walk_words, spaced, end_words}
 use Rattle.ct_lines.proofs.TextLines.{text_of-append}
-use Rattle.ct_lines.proofs.Printed.{line_is, spaced-append}
+use Rattle.ct_lines.proofs.Printed.{line_written, joined_five, spaced-between}
 use Rattle.ct_ledger.specs.Parts.{LedgerParts}
-use Rattle.ct_ledger.specs.LedgerText.{title_words, size_words, grade_words, move_words, job_words, job_front, entry_words, end_words, head_lines, body_lines, ledger_text}
-
--- a line of a first word and others
-line_written : (word : List ℕ) (words : List (List ℕ)) → text_of ((word ∷ words) ∷ []) ≡ word ++ (spaced words ++ (10 ∷ []))
-line_written word words = ap (λ (line : List ℕ). line ++ (10 ∷ [])) (line_is word words) ∙ append_assoc word (spaced words) (10 ∷ [])
-
-joined_five : (out a b c d e : List ℕ) → ((((out ++ a) ++ b) ++ c) ++ d) ++ e ≡ out ++ (a ++ (b ++ (c ++ (d ++ e))))
-joined_five out a b c d e = simp append_assoc
+use Rattle.ct_ledger.specs.LedgerText.{title_words, size_words, grade_words, move_words, job_words, job_front, entry_words, head_lines, body_lines, ledger_text}
 
 joined_six : (out a b c d e f : List ℕ) → (((((out ++ a) ++ b) ++ c) ++ d) ++ e) ++ f ≡ out ++ (a ++ (b ++ (c ++ (d ++ (e ++ f)))))
 joined_six out a b c d e f = simp append_assoc
@@ -28,16 +21,10 @@ head_written out rows columns grade =
     joined_six out (codes "ledger 1\nsize") (spaced (decimal rows ∷ [])) (spaced (decimal columns ∷ [])) (codes "\ngrade") (spaced (decimal grade ∷ [])) (codes "\n")
     ∙ ap (λ (text : List ℕ). out ++ text) (head_line (decimal rows) (decimal columns) (decimal grade))
 
--- two lists of words with a word between them, and LF
-between : (first second : List (List ℕ)) (word : List ℕ) → spaced (first ++ (word ∷ second)) ++ (10 ∷ []) ≡ spaced first ++ ((32 ∷ word) ++ (spaced second ++ (10 ∷ [])))
-between first second word =
-    ap (λ (line : List ℕ). line ++ (10 ∷ [])) (spaced-append first (word ∷ second)) ∙ append_assoc (spaced first) ((32 ∷ word) ++ spaced second) (10 ∷ [])
-    ∙ ap (λ (line : List ℕ). spaced first ++ line) (append_assoc (32 ∷ word) (spaced second) (10 ∷ []))
-
 pub move_written : (out : List ℕ) (head tail : List ℕ) → ((((out ++ codes "move") ++ spaced (map decimal head)) ++ codes " to") ++ spaced (map decimal tail)) ++ codes "\n" ≡ out ++ text_of (move_words (head, tail) ∷ [])
 move_written out head tail =
     joined_five out (codes "move") (spaced (map decimal head)) (codes " to") (spaced (map decimal tail)) (codes "\n")
-    ∙ ap (λ (text : List ℕ). out ++ text) (sym (line_written (codes "move") (map decimal head ++ (codes "to" ∷ map decimal tail)) ∙ ap (λ (line : List ℕ). codes "move" ++ line) (between (map decimal head) (map decimal tail) (codes "to"))))
+    ∙ ap (λ (text : List ℕ). out ++ text) (sym (line_written (codes "move") (map decimal head ++ (codes "to" ∷ map decimal tail)) ∙ ap (λ (line : List ℕ). codes "move" ++ line) (spaced-between (map decimal head) (map decimal tail) (codes "to"))))
 
 job_plain : (a b rest last : List ℕ) → (a ++ (32 ∷ (b ++ rest))) ++ last ≡ (a ++ (32 ∷ (b ++ []))) ++ (rest ++ last)
 job_plain a b rest last = rw (append-nil b, append_assoc a (32 ∷ (b ++ rest)) last, append_assoc a (32 ∷ b) (rest ++ last), append_assoc b rest last) refl
@@ -52,7 +39,7 @@ coprime_written out job = append_assoc out (job_front job) (codes " coprime\n") 
 pub walks_written : (out : List ℕ) (job : Job) (first second : List (ℕ × ℕ)) → ((((out ++ job_front job) ++ spaced (walk_words first)) ++ codes " |") ++ spaced (walk_words second)) ++ codes "\n" ≡ out ++ text_of (job_words job (walk_words first ++ (codes "|" ∷ walk_words second)) ∷ [])
 walks_written out job first second =
     joined_five out (job_front job) (spaced (walk_words first)) (codes " |") (spaced (walk_words second)) (codes "\n")
-    ∙ ap (λ (text : List ℕ). out ++ text) (sym (job_line job (walk_words first ++ (codes "|" ∷ walk_words second)) ∙ ap (λ (line : List ℕ). job_front job ++ line) (between (walk_words first) (walk_words second) (codes "|"))))
+    ∙ ap (λ (text : List ℕ). out ++ text) (sym (job_line job (walk_words first ++ (codes "|" ∷ walk_words second)) ∙ ap (λ (line : List ℕ). job_front job ++ line) (spaced-between (walk_words first) (walk_words second) (codes "|"))))
 
 pub ledger_written : (l : LedgerParts) → ((text_of (head_lines l) ++ text_of (map move_words l.moves)) ++ text_of (map entry_words l.entries)) ++ codes "end\n" ≡ ledger_text l
 unfolding ledger_text

@@ -2,7 +2,7 @@
 use Rattle.std.specs.Prelude.{◌≡◌, ℕ, List, [], ◌∷◌, ◌++◌, map, decimal, codes}
 use Rattle.ct_instance.specs.declared.jobs.Job.{Job}
 use Rattle.ct_instance.specs.declared.jobs.Job.TheVariants.{Generator, Pair}
-use Rattle.ct_lines.specs.Texts.{text_of, walk_words, spaced}
+use Rattle.ct_lines.specs.Texts.{text_of, walk_words, spaced, end_words}
 use Rattle.ct_ledger.specs.declared.entries.LedgerEntry.{LedgerEntry}
 use Rattle.ct_ledger.specs.declared.entries.LedgerEntry.TheVariants.{Coprime, Walks}
 use Rattle.ct_ledger.specs.Parts.{LedgerParts, IsLedger}
@@ -33,9 +33,6 @@ job_front (Pair a b) = codes "pair" ++ spaced (decimal a ∷ decimal b ∷ [])
 abbrev pub entry_words : LedgerEntry → List (List ℕ)
 entry_words (Coprime job) = job_words job (codes "coprime" ∷ [])
 entry_words (Walks job first second) = job_words job (walk_words first ++ (codes "|" ∷ walk_words second))
-
-abbrev pub end_words : List (List ℕ)
-end_words = codes "end" ∷ []
 
 -- ---- the lines
 

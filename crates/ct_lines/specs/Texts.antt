@@ -12,6 +12,10 @@ ended (line ∷ lines) = line ++ (10 ∷ ended lines)
 abbrev pub text_of : List (List (List ℕ)) → List ℕ
 text_of lines = ended (map (join_with_byte 32) lines)
 
+-- the last line of a text
+abbrev pub end_words : List (List ℕ)
+end_words = codes "end" ∷ []
+
 -- ---- a walk in words
 
 -- the number of a move, from 1, and how many times it is taken

@@ -4,38 +4,27 @@ use Rattle.std.specs.List.{flat_map}
 use Rattle.std.specs.Prelude.{ℤ}
 use Rattle.std.specs.Fmt.{signed_decimal}
 use Rattle.std.proofs.lemmas.List.{take_more, length-take-le}
-use Rattle.ct_lines.specs.Texts.{text_of, spaced}
+use Rattle.ct_lines.specs.Texts.{text_of, spaced, end_words}
 use Rattle.ct_lines.proofs.TextLines.{text_of-append}
-use Rattle.ct_lines.proofs.Printed.{line_is, spaced-append}
+use Rattle.ct_lines.proofs.Printed.{line_written, joined_five, spaced-between}
 use Rattle.ct_version.specs.declared.answers.Answer.TheVariants.{Optimum}
 use Rattle.ct_session.specs.declared.lines.Line.{Line}
 use Rattle.ct_report.specs.declared.reports.PhaseReport.{PhaseReport}
 use Rattle.ct_report.specs.declared.reports.Report.{Report}
-use Rattle.ct_report.specs.ReportText.{phase_words, session_words, answer_words, end_words, line_lines, sessions_lines, level_lines, phase_lines, phases_lines, report_text}
-use Rattle.ct_report.proofs.ReportMachine.{flat_map_push, sessions_push, phases_push}
-
-line_written : (word : List ℕ) (words : List (List ℕ)) → text_of ((word ∷ words) ∷ []) ≡ word ++ (spaced words ++ (10 ∷ []))
-line_written word words = ap (λ (line : List ℕ). line ++ (10 ∷ [])) (line_is word words) ∙ append_assoc word (spaced words) (10 ∷ [])
+use Rattle.ct_report.specs.ReportText.{phase_words, session_words, answer_words, line_lines, sessions_lines, level_lines, phase_lines, phases_lines, report_text}
+use Rattle.ct_report.proofs.SaidLines.{flat_map_push, sessions_push, phases_push}
 
 joined_three : (out a b c : List ℕ) → ((out ++ a) ++ b) ++ c ≡ out ++ (a ++ (b ++ c))
 joined_three out a b c = simp append_assoc
-
-joined_five : (out a b c d e : List ℕ) → ((((out ++ a) ++ b) ++ c) ++ d) ++ e ≡ out ++ (a ++ (b ++ (c ++ (d ++ e))))
-joined_five out a b c d e = simp append_assoc
 
 -- a first word, others and LF
 pub line_of_written : (out word : List ℕ) (words : List (List ℕ)) → ((out ++ word) ++ spaced words) ++ (10 ∷ []) ≡ out ++ text_of ((word ∷ words) ∷ [])
 line_of_written out word words = joined_three out word (spaced words) (10 ∷ []) ∙ ap (λ (text : List ℕ). out ++ text) (sym (line_written word words))
 
-between : (first second : List (List ℕ)) (word : List ℕ) → spaced (first ++ (word ∷ second)) ++ (10 ∷ []) ≡ spaced first ++ ((32 ∷ word) ++ (spaced second ++ (10 ∷ [])))
-between first second word =
-    ap (λ (line : List ℕ). line ++ (10 ∷ [])) (spaced-append first (word ∷ second)) ∙ append_assoc (spaced first) ((32 ∷ word) ++ spaced second) (10 ∷ [])
-    ∙ ap (λ (line : List ℕ). spaced first ++ line) (append_assoc (32 ∷ word) (spaced second) (10 ∷ []))
-
 pub optimum_written : (out : List ℕ) (point : List ℕ) (costs : List ℤ) → ((((out ++ codes "optimum") ++ spaced (map signed_decimal costs)) ++ codes " at") ++ spaced (map decimal point)) ++ codes "\n" ≡ out ++ text_of (answer_words (Optimum point costs) ∷ [])
 optimum_written out point costs =
     joined_five out (codes "optimum") (spaced (map signed_decimal costs)) (codes " at") (spaced (map decimal point)) (codes "\n")
-    ∙ ap (λ (text : List ℕ). out ++ text) (sym (line_written (codes "optimum") (map signed_decimal costs ++ (codes "at" ∷ map decimal point)) ∙ ap (λ (line : List ℕ). codes "optimum" ++ line) (between (map signed_decimal costs) (map decimal point) (codes "at"))))
+    ∙ ap (λ (text : List ℕ). out ++ text) (sym (line_written (codes "optimum") (map signed_decimal costs ++ (codes "at" ∷ map decimal point)) ∙ ap (λ (line : List ℕ). codes "optimum" ++ line) (spaced-between (map signed_decimal costs) (map decimal point) (codes "at"))))
 
 -- texts of lines one after the other
 pub text_then : (out : List ℕ) (xs ys : List (List (List ℕ))) → (out ++ text_of xs) ++ text_of ys ≡ out ++ text_of (xs ++ ys)

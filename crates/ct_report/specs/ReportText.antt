@@ -2,7 +2,7 @@
 use Rattle.std.specs.Prelude.{ℕ, ◌+◌, List, [], ◌∷◌, ◌++◌, map, decimal, codes, Option, Some, None}
 use Rattle.std.specs.List.{flat_map}
 use Rattle.std.specs.Fmt.{signed_decimal}
-use Rattle.ct_lines.specs.Texts.{text_of, walk_words}
+use Rattle.ct_lines.specs.Texts.{text_of, walk_words, end_words}
 use Rattle.ct_version.specs.declared.answers.Answer.{Answer}
 use Rattle.ct_version.specs.declared.answers.Answer.TheVariants.{Optimum, Infeasible}
 use Rattle.ct_version.specs.declared.finished.Finished.{Finished}
@@ -33,9 +33,6 @@ walk_line_words steps = codes "walk" ∷ walk_words steps
 abbrev pub level_words : Finished → List (List ℕ)
 level_words (Upto level) = codes "level" ∷ decimal level ∷ []
 level_words All = codes "level" ∷ codes "all" ∷ []
-
-abbrev pub end_words : List (List ℕ)
-end_words = codes "end" ∷ []
 
 -- ---- the lines
 

@@ -1,0 +1,9 @@
+use Rattle.std.proofs.Common.{map, take}
+use Rattle.std.specs.Fmt.{signed_decimal}
+use Rattle.ct_lines.specs.Texts.{spaced}
+use Rattle.ct_lines.proofs.Printed.{in_front}
+use Rattle.ct_lines.proofs.print.push_signeds.Goals as goal
+
+pub returns-in_err-push_one_signed-clause-err : goal.returns-in_err-push_one_signed-clause-err
+returns-in_err-push_one_signed-clause-err c =
+    in_front c.from_residual.result c.args.out.now.items (spaced (map signed_decimal (take c.loop-number.number-index c.args.numbers.now))) c.loop-number.out.items c.push_one_signed.new.out.items c.loop-number.invariant c.in_err-push_one_signed.ensures.err

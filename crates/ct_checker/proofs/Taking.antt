@@ -16,7 +16,6 @@ use Rattle.ct_checker.specs.Refusals.{same_numbers, move_reason, refused_move}
 use Rattle.ct_checker.specs.declared.stops.CheckStop.{CheckStop}
 use Rattle.ct_checker.specs.declared.stops.CheckStop.TheVariants as stop
 use Rattle.ct_checker.specs.Checking.{as_move, reason_for, IsRefusedBy}
-use Rattle.ct_checker.proofs.Refusals.{same_numbers_test}
 
 -- what is refused first of the moves from the k-th on
 pub move_left : (i : Problem) (g : ℕ) (pairs : List (List ℕ × List ℕ)) (k : ℕ) (d : List ℕ × List ℕ) → k < length pairs →

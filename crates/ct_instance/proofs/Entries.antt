@@ -60,8 +60,9 @@ columns-limit k m n es h =
     All-map (λ c. (length c ≡ m) × All (λ a. a ≤ k) c) (λ j. column_of m n j es) (indices n)
     (λ i d l. (length-column_of m n (get_or (indices n) i d) es, All-column_of k m n (get_or (indices n) i d) es h))
 
-pub columns-total : (m n : ℕ) (es : List ℕ) → m ≤ ROW_LIMIT → All (λ a. a ≤ ENTRY_LIMIT) es → All (λ c. total c ≤ ROW_LIMIT * ENTRY_LIMIT) (columns_of m n es)
-columns-total m n es few h = All-weaker (λ c. (length c ≡ m) × All (λ a. a ≤ ENTRY_LIMIT) c) (λ c. total c ≤ ROW_LIMIT * ENTRY_LIMIT) small (columns_of m n es) (columns-limit ENTRY_LIMIT m n es h)
+-- what columns of m entries within the limit sum up to
+pub columns-total : (m : ℕ) (cs : List (List ℕ)) → m ≤ ROW_LIMIT → All (λ c. (length c ≡ m) × All (λ a. a ≤ ENTRY_LIMIT) c) cs → All (λ c. total c ≤ ROW_LIMIT * ENTRY_LIMIT) cs
+columns-total m cs few h = All-weaker (λ c. (length c ≡ m) × All (λ a. a ≤ ENTRY_LIMIT) c) (λ c. total c ≤ ROW_LIMIT * ENTRY_LIMIT) small cs h
   where
     small : (c : List ℕ) → (length c ≡ m) × All (λ a. a ≤ ENTRY_LIMIT) c → total c ≤ ROW_LIMIT * ENTRY_LIMIT
     small c (len, limit) =
@@ -71,22 +72,16 @@ columns-total m n es few h = All-weaker (λ c. (length c ≡ m) × All (λ a. a 
 
 -- the sums of columns of an instance have a limit
 pub IsColumn-total : (m : ℕ) (cs : List (List ℕ)) → m ≤ ROW_LIMIT → All (IsColumn m) cs → All (λ c. total c ≤ ROW_LIMIT * ENTRY_LIMIT) cs
-IsColumn-total m cs few h = All-weaker (IsColumn m) (λ c. total c ≤ ROW_LIMIT * ENTRY_LIMIT) small cs h
-  where
-    small : (c : List ℕ) → IsColumn m c → total c ≤ ROW_LIMIT * ENTRY_LIMIT
-    small c column =
-        let bound : total c ≤ length c * ENTRY_LIMIT = total-limit ENTRY_LIMIT c column.limit in
-        let len : length c ≡ m = column.entries in
-        let most : length c * ENTRY_LIMIT ≤ ROW_LIMIT * ENTRY_LIMIT = omega arith in
-        omega arith
+IsColumn-total m cs few h =
+    columns-total m cs few (All-weaker (IsColumn m) (λ c. (length c ≡ m) × All (λ a. a ≤ ENTRY_LIMIT) c) (λ c column. (column.entries, column.limit)) cs h)
 
 -- columns that have entries within the limit and a positive sum are columns of an instance
-pub are_columns : (m n : ℕ) (es : List ℕ) → All (λ a. a ≤ ENTRY_LIMIT) es → All (λ s. 1 ≤ s) (map total (columns_of m n es)) → All (IsColumn m) (columns_of m n es)
-are_columns m n es limit positive i d l =
-    let at : (length (get_or (columns_of m n es) i d) ≡ m) × All (λ a. a ≤ ENTRY_LIMIT) (get_or (columns_of m n es) i d) = columns-limit ENTRY_LIMIT m n es limit i d l in
-    let in-sums : i < length (map total (columns_of m n es)) = subst (λ k. i < k) (sym (length-map (columns_of m n es) total)) l in
-    let sum : 1 ≤ get_or (map total (columns_of m n es)) i 0 = positive i 0 in-sums in
-    let same : get_or (map total (columns_of m n es)) i 0 ≡ total (get_or (columns_of m n es) i d) = get_or-map total (columns_of m n es) i d 0 l in
+pub are_columns : (m : ℕ) (cs : List (List ℕ)) → All (λ c. (length c ≡ m) × All (λ a. a ≤ ENTRY_LIMIT) c) cs → All (λ s. 1 ≤ s) (map total cs) → All (IsColumn m) cs
+are_columns m cs limit positive i d l =
+    let at : (length (get_or cs i d) ≡ m) × All (λ a. a ≤ ENTRY_LIMIT) (get_or cs i d) = limit i d l in
+    let in-sums : i < length (map total cs) = subst (λ k. i < k) (sym (length-map cs total)) l in
+    let sum : 1 ≤ get_or (map total cs) i 0 = positive i 0 in-sums in
+    let same : get_or (map total cs) i 0 ≡ total (get_or cs i d) = get_or-map total cs i d 0 l in
     record { entries = at.0; limit = at.1; positive = subst (λ s. 1 ≤ s) same sum }
 
 set_in_zeros : (n j : ℕ) → j < n → set (zeros n) j 1 ≡ unit n j

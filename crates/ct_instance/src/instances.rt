@@ -1,10 +1,10 @@
 //! The checked instance.
-ghost use Rattle.std.specs.Prelude.{◌≡◌, ◌≢◌, ◌+◌, ◌-◌, ◌*◌, ◌/◌, ◌%◌, ◌<◌, ◌≤◌, ◌++◌, [], ◌∷◌, None, Some, IsOk, length, map, nat_abs, All, slice_index, IfOk, IfErr, OnOk};
+ghost use Rattle.std.specs.Prelude.{◌≡◌, ◌≢◌, ◌+◌, ◌-◌, ◌*◌, ◌/◌, ◌%◌, ◌<◌, ◌≤◌, ◌++◌, [], ◌∷◌, None, Some, IsOk, length, map, nat_abs, nat_eq, position, All, slice_index, IfOk, IfErr, OnOk};
 ghost use Rattle.ct_vectors.specs.Vectors.{total, zeros};
 ghost use Rattle.ct_vectors.specs.declared.limits.TheConstants.{ROW_LIMIT, COLUMN_LIMIT, COST_ROW_LIMIT, ENTRY_LIMIT, COST_LIMIT, JOB_GRADE_LIMIT};
 ghost use Rattle.ct_order.specs.Costs.{rows_of};
 
-use crate::making::{check_costs, check_entries, matrix_from};
+use crate::making::{check_costs, check_entries, matrix_from, positive_sums};
 use crate::refusals::{BadInstance, BadMatrix};
 use crate::sums::{degree_by_columns, grade_by_sums, wide_grade_by_sums};
 use ct_order::Costs;
@@ -122,6 +122,32 @@ impl Instance {
     {
         let (points, sums) = matrix_from(alloc, rows as usize, columns as usize, entries)?;
         let made = Instance::with_matrix(alloc, rows as usize, points, sums, cost)?;
+        Ok(made)
+    }
+
+    /// The instance of these columns, of so many entries each, with these costs. All that it can refuse is a zero column.
+    /// It takes the columns over, and memory for their sums and the costs.
+    pub fn from_columns(
+        alloc: Global,
+        rows: usize,
+        columns: Vec<Point>,
+        cost: &[i64],
+    ) -> Result<Instance, BadMatrix>
+        requires some_row { 1 ≤ rows }
+        requires row_limit { rows ≤ ROW_LIMIT }
+        requires some_column { 1 ≤ length columns.items }
+        requires column_limit { length columns.items ≤ COLUMN_LIMIT }
+        requires entries { All (λ c. (length c ≡ rows) × All (λ a. a ≤ ENTRY_LIMIT) c) columns.items }
+        requires whole_rows { length cost.now % length columns.items ≡ 0 }
+        requires some_cost_row { length columns.items ≤ length cost.now }
+        requires cost_row_limit { length cost.now ≤ COST_ROW_LIMIT * length columns.items }
+        requires cost_limit { All (λ c. nat_abs c ≤ COST_LIMIT) cost.now }
+        ensures ok { IfOk result (λ i. i ≡ record { rows = rows; columns = columns.items; cost_rows = rows_of (length cost.now / length columns.items) (length columns.items) cost.now }) }
+        ensures none { OnOk result (position (λ s. nat_eq s 0) (map total columns.items) ≡ None) }
+        ensures zero_column { IfErr result (λ e. NamesZeroColumn e (position (λ s. nat_eq s 0) (map total columns.items))) }
+    {
+        let sums = positive_sums(alloc, &columns)?;
+        let made = Instance::with_matrix(alloc, rows, columns, sums, cost)?;
         Ok(made)
     }
 

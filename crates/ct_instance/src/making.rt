@@ -134,6 +134,20 @@ fn sums_of(alloc: Global, columns: &[Point]) -> Result<Vec<u64>, AllocError>
     Ok(sums)
 }
 
+// The sum of each column, where none is zero.
+pub fn positive_sums(alloc: Global, columns: &[Point]) -> Result<Vec<u64>, BadMatrix>
+    requires count { length columns.now ≤ COLUMN_LIMIT }
+    requires limit { All (λ c. total c ≤ ROW_LIMIT * ENTRY_LIMIT) columns.now }
+    ensures sums { IfOk result (λ v. v.items ≡ map total columns.now) }
+    ensures positive { OnOk result (All (λ s. 1 ≤ s) (map total columns.now)) }
+    ensures none { OnOk result (position (λ s. nat_eq s 0) (map total columns.now) ≡ None) }
+    ensures zero_column { IfErr result (λ e. NamesZeroColumn e (position (λ s. nat_eq s 0) (map total columns.now))) }
+{
+    let sums = sums_of(alloc, columns)?;
+    check_sums(&sums)?;
+    Ok(sums)
+}
+
 // The columns in order and the sum of each, where none is zero.
 pub fn matrix_from(
     alloc: Global,
@@ -154,7 +168,6 @@ pub fn matrix_from(
     ensures zero_column { IfErr result (λ e. NamesZeroColumn e (zero_column_of rows columns entries.now)) }
 {
     let points = columns_from(alloc, rows, columns, entries)?;
-    let sums = sums_of(alloc, &points)?;
-    check_sums(&sums)?;
+    let sums = positive_sums(alloc, &points)?;
     Ok((points, sums))
 }

@@ -66,6 +66,27 @@ fn points_of_an_instance(rt: HostRuntime) -> Result<(), Fail> {
     Ok(())
 }
 
+// One row, with an entry for each column.
+fn columns(alloc: Global, entries: &[u64]) -> Result<Vec<Point>, AllocError>
+    ensures { IfOk result (λ cs. cs.items ≡ map (λ a. a ∷ []) entries.now) }
+{
+    let mut made = Vec::new(alloc);
+    for a in entries {
+        made.push(Point::from_slice(alloc, &[*a])?)?;
+    }
+    Ok(made)
+}
+
+#[test]
+fn instances_by_columns(rt: HostRuntime) -> Result<(), Fail> {
+    let alloc = rt.alloc();
+    let coins = Instance::from_columns(alloc, 1, columns(alloc, &[3, 5])?, &[2, 3])?;
+    assert!(rt; coins.entry(1, 2) == 5 && coins.sums() == [3, 5].as_slice());
+    let none = Instance::from_columns(alloc, 1, columns(alloc, &[3, 0])?, &[2, 3]);
+    assert!(rt; none.err() == Some(BadMatrix::ZeroColumn { col: 2 }));
+    Ok(())
+}
+
 #[test]
 fn degree_and_grade(rt: HostRuntime) -> Result<(), Fail> {
     let alloc = rt.alloc();

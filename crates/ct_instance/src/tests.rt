@@ -1,8 +1,10 @@
 //! Values from outside the contracts: two coins of 3 and 5 with the costs 2 and 3.
+ghost use Rattle.std.specs.Prelude.{◌≡◌, [], ◌∷◌, map, IfOk};
 
 use crate::{BadInstance, BadMatrix, Instance};
 use ct_order::compare;
 use ct_point::Point;
+use std::alloc::{AllocError, Global};
 use std::cmp::Ordering;
 use std::test::Fail;
 

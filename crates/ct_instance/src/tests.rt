@@ -1,5 +1,6 @@
 //! Values from outside the contracts: two coins of 3 and 5 with the costs 2 and 3.
-ghost use Rattle.std.specs.Prelude.{◌≡◌, [], ◌∷◌, map, IfOk};
+ghost use Rattle.std.specs.Prelude.{◌≡◌, ◌≤◌, length, All, IfOk};
+ghost use Rattle.ct_vectors.specs.declared.limits.TheConstants.{ENTRY_LIMIT};
 
 use crate::{BadInstance, BadMatrix, Instance};
 use ct_order::compare;
@@ -68,23 +69,25 @@ fn points_of_an_instance(rt: HostRuntime) -> Result<(), Fail> {
     Ok(())
 }
 
-// One row, with an entry for each column.
-fn columns(alloc: Global, entries: &[u64]) -> Result<Vec<Point>, AllocError>
-    ensures { IfOk result (λ cs. cs.items ≡ map (λ a. a ∷ []) entries.now) }
+// The columns of one row with these two entries.
+fn two_columns(alloc: Global, first: u64, second: u64) -> Result<Vec<Point>, AllocError>
+    requires first { first ≤ ENTRY_LIMIT }
+    requires second { second ≤ ENTRY_LIMIT }
+    ensures count { IfOk result (λ cs. length cs.items ≡ 2) }
+    ensures entries { IfOk result (λ cs. All (λ c. (length c ≡ 1) × All (λ a. a ≤ ENTRY_LIMIT) c) cs.items) }
 {
-    let mut made = Vec::new(alloc);
-    for a in entries {
-        made.push(Point::from_slice(alloc, &[*a])?)?;
-    }
-    Ok(made)
+    let mut columns = Vec::new(alloc);
+    columns.push(Point::from_slice(alloc, &[first])?)?;
+    columns.push(Point::from_slice(alloc, &[second])?)?;
+    Ok(columns)
 }
 
 #[test]
 fn instances_by_columns(rt: HostRuntime) -> Result<(), Fail> {
     let alloc = rt.alloc();
-    let coins = Instance::from_columns(alloc, 1, columns(alloc, &[3, 5])?, &[2, 3])?;
+    let coins = Instance::from_columns(alloc, 1, two_columns(alloc, 3, 5)?, &[2, 3])?;
     assert!(rt; coins.entry(1, 2) == 5 && coins.sums() == [3, 5].as_slice());
-    let none = Instance::from_columns(alloc, 1, columns(alloc, &[3, 0])?, &[2, 3]);
+    let none = Instance::from_columns(alloc, 1, two_columns(alloc, 3, 0)?, &[2, 3]);
     assert!(rt; none.err() == Some(BadMatrix::ZeroColumn { col: 2 }));
     Ok(())
 }

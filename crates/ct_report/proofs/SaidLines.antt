@@ -1,35 +1,13 @@
 -- The lines that were read of a report so far, and what is added at their end.
-use Rattle.std.proofs.Common.{◌≡◌, ℕ, suc, ◌+◌, ◌*◌, ◌<◌, ◌≤◌, ◌^◌, Bool, true, false, cond, ltb, List, [], ◌∷◌, ◌++◌, length, map, decimal, codes, Option, Some, None, Ok, Err, refl, sym, ap, subst, ◌∙◌, inl, inr, arith, lit<, append_assoc}
-use Rattle.std.specs.Prelude.{unsigned_abs, Result, IfOk}
-use Rattle.std.specs.Prelude.{All as Each}
-use Rattle.std.specs.List.{AllByRecursion, flat_map}
-use Rattle.std.specs.Fmt.{signed_decimal}
-use Rattle.std.proofs.lemmas.Bool.{lt-ltb, ltb-true}
-use Rattle.std.proofs.lemmas.List.{append-nil, length_push}
-use Rattle.std.proofs.lemmas.List.Elements.{All-nil, All-push, All-head, All-tail, All-from_recursion, recursion_from_All}
-use Rattle.ct_vectors.specs.declared.limits.TheConstants.{COST_LIMIT, GRADE_LIMIT, JOB_GRADE_LIMIT}
-use Rattle.ct_lines.specs.Texts.{text_of, IsStep, walk_words, end_words}
-use Rattle.ct_lines.specs.Reading.{is_next}
-use Rattle.ct_lines.specs.Wording.{Wording, barred, Spells, Runs, read_from}
-use Rattle.ct_lines.specs.FaultLine.{IsFaultLine}
-use Rattle.ct_text.specs.Pieces.{split}
-use Rattle.ct_lines.specs.declared.stop.TextStop.{TextStop}
-use Rattle.ct_lines.specs.Stops.{AtFault, Found}
-use Rattle.ct_lines.proofs.TextLines.{IsSpelled, AreSpelled}
-use Rattle.ct_lines.proofs.Spelling.{Fits, fits_if, spells_if, not_number}
-use Rattle.ct_lines.proofs.LineWords.{AreWords, words_append, word_decimal, words_numbers, words_signed, words_walk, spelled_line, spelled_append}
-use Rattle.ct_lines.proofs.Machines.{Machine, Runs-append, one_value, ok_from_found, fault_from_found}
-use Rattle.ct_version.specs.declared.answers.Answer.{Answer}
-use Rattle.ct_version.specs.declared.answers.Answer.TheVariants.{Optimum, Infeasible}
+use Rattle.std.proofs.Common.{◌≡◌, ℕ, suc, ◌+◌, List, [], ◌∷◌, ◌++◌, length, Option, None, sym, ap, ◌∙◌, arith, append_assoc}
+use Rattle.std.specs.List.{flat_map}
+use Rattle.std.proofs.lemmas.List.{append-nil}
+use Rattle.ct_lines.specs.Texts.{end_words}
 use Rattle.ct_version.specs.declared.finished.Finished.{Finished}
-use Rattle.ct_version.specs.declared.finished.Finished.TheVariants.{Upto, All}
 use Rattle.ct_session.specs.declared.lines.Line.{Line}
-use Rattle.ct_session.specs.declared.lines.Line.TheVariants.{Answered, NotYet, Full}
 use Rattle.ct_report.specs.declared.reports.PhaseReport.{PhaseReport}
-use Rattle.ct_report.specs.declared.reports.Report.{Report}
-use Rattle.ct_report.specs.ReportText.{title_words, phase_words, session_words, answer_words, walk_line_words, level_words, line_lines, sessions_lines, level_lines, phase_lines, phases_lines, report_lines, report_text}
-use Rattle.ct_report.specs.Limits.{IsAnswer, IsLine, IsLevel, IsCount, IsPhase, IsReport, IsReportText}
-use Rattle.ct_report.specs.Grammar.{Stage, title, between, in_phase, in_session, in_answer, closed, one_more, phase_of, next_number, if_room, between_line, phase_line, optimum_line, session_line, answer_line, next_line, is_closed, closed_of}
+use Rattle.ct_report.specs.ReportText.{title_words, phase_words, session_words, answer_words, line_lines, sessions_lines, level_lines, phase_lines, phases_lines}
+use Rattle.ct_report.specs.Grammar.{Stage, title, between, in_phase, in_session, in_answer, closed, one_more, phase_of}
 
 abbrev pub Lines : Type 0
 Lines = List (List (List ℕ))

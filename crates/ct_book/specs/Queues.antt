@@ -46,9 +46,3 @@ without place order = filter (λ p. not (nat_eq p place)) order
 abbrev pub points_seen : Option (Box Ends Global) → Option (List ℕ × List ℕ)
 points_seen None = None
 points_seen (Some ends) = Some (ends.value.first, ends.value.second)
-
--- the job waits, or it left nothing
-abbrev pub leaves_none : Option (Option (List ℕ × List ℕ)) → Type 0
-leaves_none None = Unit {0}
-leaves_none (Some None) = Unit {0}
-leaves_none (Some (Some points)) = ⊥

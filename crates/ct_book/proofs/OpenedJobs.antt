@@ -10,10 +10,7 @@ use Rattle.ct_instance.specs.Reach.{opened_grade}
 use Rattle.ct_instance.proofs.JobsList.{jobs_of_grade_listed}
 use Rattle.ct_instance.proofs.Lists.{Contains-nil}
 use Rattle.ct_completion.specs.Machine.{opened_jobs}
-
-pub opened_is : (i : Problem) (k d : ℕ) → opened_grade i k ≡ Some d → opened_jobs i k ≡ jobs_at i (version_list i k) d
-unfolding opened_jobs
-opened_is i k d e = rw e refl
+use Rattle.ct_completion.proofs.Remainders.{opened_is}
 
 pub opened_none : (i : Problem) (k : ℕ) → opened_grade i k ≡ None → opened_jobs i k ≡ []
 unfolding opened_jobs

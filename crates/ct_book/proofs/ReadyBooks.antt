@@ -31,7 +31,7 @@ use Rattle.ct_completion.specs.Machine.{CompletionState, CompletionStep, IsReady
 use Rattle.ct_completion.specs.Journal.{IsReplay, acts_of}
 use Rattle.ct_completion.specs.Kept.{AreLevels}
 use Rattle.ct_completion.specs.Remainders.{AreRemainders, points_of, IsGroupMove}
-use Rattle.ct_completion.proofs.Remainders.{next_list_is}
+use Rattle.ct_completion.proofs.Remainders.{opened_is, next_list_is}
 use Rattle.ct_completion.proofs.Replay.{journal_grows, opened_level}
 use Rattle.ct_groups.specs.Groups.{IsSmallPoint}
 use Rattle.ct_version.specs.declared.finished.Finished.{Finished}
@@ -43,7 +43,7 @@ use Rattle.ct_book.specs.Insides.{Insides, state_in, book_in, IsBook, fresh}
 use Rattle.ct_book.specs.Openings.{left_in}
 use Rattle.ct_book.proofs.Keeping.{inside_of}
 use Rattle.ct_book.proofs.FreshBooks.{fresh_book, fresh_state}
-use Rattle.ct_book.proofs.OpenedJobs.{IsOpened, job_opened, opened_is}
+use Rattle.ct_book.proofs.OpenedJobs.{IsOpened, job_opened}
 
 -- ---- the points of remainders
 

@@ -3,3 +3,4 @@ pub mod Replay
 pub mod Groups
 pub mod Remainders
 pub mod Worked
+pub mod OnePass

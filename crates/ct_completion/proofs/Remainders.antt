@@ -12,7 +12,7 @@ use Rattle.ct_instance.specs.TestSet.{Binomial, IsTestHead, IsTestMove, IsTestLi
 use Rattle.ct_instance.specs.Walk.{AreMoves, IsWalkEnd}
 use Rattle.ct_instance.specs.Jobs.{IsJob, job_degree_of, job_grade_of, first_end_of, second_end_of, IsCoprime, jobs_at}
 use Rattle.ct_instance.specs.Versions.{upto, level_of, version_list, IsVersion, IsRemainder, coprime, meet, differ}
-use Rattle.ct_instance.specs.Reach.{opened_grade}
+use Rattle.ct_instance.specs.Reach.{grade_after, opened_grade}
 use Rattle.ct_instance.proofs.Lists.{Contains-here, Contains-there, Contains-cons_cases, Contains-nil, Contains-map}
 use Rattle.ct_instance.proofs.Ordered.{InOrder-append, InOrder-pairs, InOrder-from_pairs}
 use Rattle.ct_instance.proofs.JobsList.{jobs_of_grade_listed}
@@ -223,9 +223,12 @@ module _ (i : Problem) (s : IsInstance i) (g : ℕ) (ms : List Binomial) (t : Is
 
 -- ---- over versions
 
-jobs_are_opened : (i : Problem) (k l : ℕ) → level_of i k ≡ upto l → opened_jobs i k ≡ jobs_at i (version_list i k) (suc l)
+pub opened_is : (i : Problem) (k d : ℕ) → opened_grade i k ≡ Some d → opened_jobs i k ≡ jobs_at i (version_list i k) d
 unfolding opened_jobs
-jobs_are_opened i k l e = rw e (ap (jobs_at i (version_list i k)) (let same : l + 1 ≡ suc l = omega arith in same))
+opened_is i k d e = rw e refl
+
+jobs_are_opened : (i : Problem) (k l : ℕ) → level_of i k ≡ upto l → opened_jobs i k ≡ jobs_at i (version_list i k) (suc l)
+jobs_are_opened i k l e = opened_is i k (suc l) (ap grade_after e ∙ ap Some (let same : l + 1 ≡ suc l = omega arith in same))
 
 is_list_at_level : (i : Problem) → IsInstance i → (k l : ℕ) → IsVersion i k → level_of i k ≡ upto l → IsTestList i l (version_list i k)
 is_list_at_level i s k l v e = (test_lists i s l (version_list i k)).0 (list_at_level i s k l v e)

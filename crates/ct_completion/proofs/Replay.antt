@@ -1,14 +1,13 @@
 -- The state of a completion is the replay of its journal.
-use Rattle.std.proofs.Common.{ℕ, take, get_or, ◌+◌, ◌≤◌, ◌<◌, ◌≡◌, ◌⊎◌, inl, inr, ⊎_elim, Bool, true, false, true≢false, ◌&&◌, nat_eq, cond, Decides, Option, Some, None, List, [], ◌∷◌, ◌++◌, length, map, count_by, Contains, refl, sym, subst, subst₂, ap, ap₂, ◌∙◌, arith, suc, append_assoc, append-nil, length-append, eqb-true, eq-eqb}
+use Rattle.std.proofs.Common.{ℕ, take, get_or, ◌+◌, ◌≤◌, ◌<◌, ◌≡◌, ◌⊎◌, inl, inr, ⊎_elim, true, true≢false, cond, Option, Some, None, List, [], ◌∷◌, ◌++◌, length, map, count_by, Contains, refl, sym, subst, subst₂, ap, ap₂, ◌∙◌, arith, suc, append_assoc, append-nil, length-append}
 use Rattle.std.specs.List.Sorted.{IsPermutation}
 use Rattle.std.specs.Option.{option_map, option_to_list}
-use Rattle.std.proofs.lemmas.Bool.{and_parts, and_from, cases_lt}
+use Rattle.std.proofs.lemmas.Bool.{cases_lt}
 use Rattle.std.proofs.Math.Seq.{take-append_seam}
 use Rattle.std.proofs.lemmas.List.{same_from_push, take-append-le, get_or_append_left, get_or_push}
 use Rattle.std.proofs.lemmas.List.Sorted.{IsPermutation-refl, IsPermutation-sym, IsPermutation-trans, IsPermutation-to_front, length_permutation, Contains-permutation}
 use Rattle.std.proofs.lemmas.List.Elements.{Contains-append_left, Contains-append_right, Contains-append_cases}
 use Rattle.ct_instance.specs.declared.jobs.Job.{Job}
-use Rattle.ct_instance.specs.declared.jobs.Job.TheVariants.{Generator, Pair}
 use Rattle.ct_instance.specs.Instance.{Problem, IsInstance}
 use Rattle.ct_instance.specs.TestSet.{test_list}
 use Rattle.ct_instance.specs.Versions.{Level, upto, everything, level_of, version_list, IsVersion, IsFullGrade}

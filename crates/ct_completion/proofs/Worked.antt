@@ -5,16 +5,20 @@ use Rattle.ct_vectors.specs.declared.limits.TheConstants.{MOVE_LIMIT}
 use Rattle.ct_instance.specs.declared.jobs.Job.{Job}
 use Rattle.ct_instance.specs.declared.jobs.Job.TheVariants.{Generator, Pair}
 use Rattle.ct_instance.specs.Instance.{Problem}
+use Rattle.ct_instance.specs.Made.{indices}
 use Rattle.ct_instance.specs.Fiber.{fiber_of, least_of, IsBelow}
 use Rattle.ct_instance.specs.TestSet.{lists_of, test_moves_at, test_list}
 use Rattle.ct_instance.specs.Jobs.{all_jobs, jobs_at}
-use Rattle.ct_instance.specs.Versions.{level_after, level_of, version_list, IsRemainder, differ}
+use Rattle.ct_instance.specs.Versions.{least_above, level_after, level_of, version_list, IsRemainder, differ}
+use Rattle.ct_instance.specs.Reach.{last_opened}
 use Rattle.ct_instance.specs.Walk.{ends}
 use Rattle.ct_instance.proofs.Lists.{Contains-cons_cases, Contains-nil}
+use Rattle.ct_levels.specs.Levels.{job_grades}
 use Rattle.ct_completion.specs.declared.journals.Act.TheVariants.{Stored, Published}
 use Rattle.ct_completion.specs.declared.journals.Entry.{Entry}
 use Rattle.ct_completion.specs.Machine.{CompletionState, CompletionStep, opened_jobs, just_opened, stores, publishes, marks_full}
 use Rattle.ct_completion.specs.Journal.{Replays, opens, acts}
+use Rattle.ct_completion.specs.OnePass.{journal_to}
 use Rattle.ct_completion.specs.Remainders.{AreRemainders, points_of, IsGroupMove}
 
 abbrev coins : Problem
@@ -73,3 +77,20 @@ not_yet t p = let none : Generator 1 ∷ [] ≡ [] = (p.1).resolved in absurd (c
 at_once : CompletionStep coins 0 (record { number = 0; queue = []; full = false }) marks_full (record { number = 0; queue = []; full = true })
 unfolding opened_jobs level_of level_after version_list test_list test_moves_at lists_of least_of fiber_of all_jobs jobs_at
 at_once = (3, record { opened = refl; resolved = refl; unmarked = refl }, lit≤ tt, refl)
+
+-- the journal in job order up to version 8, which covers 15: each of the eight grades had one job
+journal_to_eight : map (λ (e : Entry). e.act) (journal_to coins 8) ≡
+    Stored (Generator 1) ∷ Published 1 ∷ Stored (Generator 2) ∷ Published 2 ∷ Stored (Pair 1 2) ∷ Published 3 ∷ Stored (Pair 1 3) ∷ Published 4 ∷
+    Stored (Pair 2 3) ∷ Published 5 ∷ Stored (Pair 2 4) ∷ Published 6 ∷ Stored (Pair 1 4) ∷ Published 7 ∷ Stored (Pair 3 4) ∷ Published 8 ∷ []
+unfolding opened_jobs level_of level_after version_list test_list test_moves_at lists_of least_of fiber_of all_jobs jobs_at
+journal_to_eight = refl
+
+serials_to_eight : map (λ (e : Entry). e.serial) (journal_to coins 8) ≡ indices 16
+unfolding opened_jobs level_of level_after version_list test_list test_moves_at lists_of least_of fiber_of all_jobs jobs_at
+serials_to_eight = refl
+
+-- the test list of 15 tells what these versions open
+whole_list_tells : map (λ k. least_above (last_opened coins k) (job_grades coins (test_list coins 15))) (indices 9) ≡
+    map Some (3 ∷ 5 ∷ 6 ∷ 8 ∷ 10 ∷ 11 ∷ 12 ∷ 15 ∷ 16 ∷ [])
+unfolding level_of level_after version_list test_list test_moves_at lists_of least_of fiber_of all_jobs
+whole_list_tells = refl

@@ -6,10 +6,11 @@ use Rattle.ct_instance.specs.Instance.{Problem, IsInstance, grade_of}
 use Rattle.ct_instance.specs.TestSet.{Binomial, IsTestList, ComesBefore, test_list}
 use Rattle.ct_instance.specs.Jobs.{jobs_at}
 use Rattle.ct_instance.specs.Versions.{version_list, IsVersion}
-use Rattle.ct_instance.specs.Reach.{opened_grade}
+use Rattle.ct_instance.specs.Reach.{opened_grade, first_version_from}
 use Rattle.ct_completion.specs.declared.journals.Entry.{Entry}
 use Rattle.ct_completion.specs.Machine.{CompletionState, CompletionEvent, CompletionRun, just_opened, opened_jobs}
 use Rattle.ct_completion.specs.Journal.{acts_of, is_publishing, IsReplay, AreAlike, AreSerials, entries_of}
+use Rattle.ct_completion.specs.OnePass.{journal_to}
 use Rattle.ct_completion.specs.Remainders.{AreRemainders, points_of, IsGroupMove}
 use Rattle.ct_completion.specs.Kept.{IsMarkRight}
 
@@ -78,3 +79,15 @@ ReplaysAreReached = (i : Problem) → IsInstance i → (limit : ℕ) (journal : 
 -- a serial that counts the earlier entries of its pass keeps the serials right
 abbrev pub SerialsGrow : Type 0
 SerialsGrow = (journal : List Entry) (entry : Entry) → AreSerials journal → entry.serial ≡ entries_of entry.pass journal → AreSerials (journal ++ entry ∷ [])
+
+-- ---- the journal in job order
+
+-- where the list of version k is within the limit, the journal in job order is replayed to version k, just opened
+abbrev pub JournalToIsReplayed : Type 0
+JournalToIsReplayed =
+    (i : Problem) → IsInstance i → (limit k : ℕ) → IsVersion i k → length (version_list i k) ≤ limit → IsReplay i limit (journal_to i k) (just_opened i k)
+
+-- up to the first version that covers g, the jobs that are opened are those of the test list of g
+abbrev pub OpenedJobsAreOfWhole : Type 0
+OpenedJobsAreOfWhole =
+    (i : Problem) → IsInstance i → (g k d : ℕ) → k ≤ first_version_from i g → opened_grade i k ≡ Some d → opened_jobs i k ≡ jobs_at i (test_list i g) d

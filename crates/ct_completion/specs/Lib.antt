@@ -1,5 +1,6 @@
 pub mod Machine
 pub mod Journal
+pub mod OnePass
 pub mod Remainders
 pub mod Kept
 pub mod Laws

@@ -1,6 +1,6 @@
 //! Laws of remainders, completions and journals, as contracts of functions that do nothing.
 
-ghost use Rattle.ct_completion.specs.Laws.{RemaindersGiveTestMoves, RemaindersGiveNewMoves, NewMovesMakeNextList, NumberCountsPublishing, StateIsReplay, JournalGrows, ReplayIsOne, ReplaysAreReached, SerialsGrow};
+ghost use Rattle.ct_completion.specs.Laws.{RemaindersGiveTestMoves, RemaindersGiveNewMoves, NewMovesMakeNextList, NumberCountsPublishing, StateIsReplay, JournalGrows, ReplayIsOne, ReplaysAreReached, SerialsGrow, JournalToIsReplayed, OpenedJobsAreOfWhole};
 
 /// The remainders of a grade's jobs against the test list of the grade before, their points in groups by degree, give
 /// exactly the moves of the grade: each other point of a group with the least one. So the jobs that a version opens
@@ -25,4 +25,11 @@ pub fn state_is_the_replay()
 pub fn replays_are_reached()
     ensures reached { ReplaysAreReached }
     ensures serials { SerialsGrow }
+{}
+
+/// What a completion rests on that begins at a grade: the journal that one pass writes which takes all jobs in job order
+/// is replayed to its last version, and the jobs that are opened on the way are told by the test list of the grade.
+pub fn journal_in_job_order_is_replayed()
+    ensures replayed { JournalToIsReplayed }
+    ensures jobs { OpenedJobsAreOfWhole }
 {}

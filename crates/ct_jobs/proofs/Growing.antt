@@ -1,5 +1,5 @@
 -- The jobs of a list of moves to which moves are added, and the next grade among all jobs.
-use Rattle.std.proofs.Common.{ℕ, ◌+◌, ◌≤◌, ◌<◌, ◌≡◌, ◌⊎◌, inl, inr, Bool, true, false, true≢false, not, nat_le, List, [], ◌∷◌, ◌++◌, map, filter, length, Contains, IsPermutation, refl, sym, ap, ap₂, subst, ◌∙◌, arith, length-append}
+use Rattle.std.proofs.Common.{ℕ, ◌+◌, ◌≤◌, ◌<◌, ◌≡◌, Bool, true, false, true≢false, not, nat_le, List, [], ◌∷◌, ◌++◌, map, filter, length, Contains, IsPermutation, refl, sym, ap, ap₂, subst, ◌∙◌, arith}
 use Rattle.std.proofs.lemmas.Bool.{lt-leb, leb-false}
 use Rattle.std.proofs.lemmas.List.{map-append}
 use Rattle.std.proofs.lemmas.List.Sorted.{IsPermutation-filter_both, IsPermutation-map, IsPermutation-append_left, IsPermutation-trans, IsPermutation-sym, Contains-permutation}
@@ -13,30 +13,10 @@ use Rattle.ct_instance.proofs.Lists.{Contains-here, Contains-there, Contains-fil
 use Rattle.ct_instance.proofs.Ordered.{InOrder-filter, InOrder-unique}
 use Rattle.ct_instance.proofs.Above.{least_above-same}
 use Rattle.ct_instance.proofs.JobsList.{jobs_listed, jobs_in_order}
-use Rattle.ct_walk.proofs.Ends.{grade_stays}
+use Rattle.ct_walk.proofs.StrictJobs.{never_before_itself, before_chain}
+use Rattle.ct_walk.proofs.Ends.{job_stays, grade_stays}
 use Rattle.ct_jobs.specs.declared.graded.GradedJob.{GradedJob}
 use Rattle.ct_jobs.specs.GradedJobs.{with_grade, graded_jobs, AreJobsOf, is_pair_from, graded_pairs_from, next_grade}
-use Rattle.ct_jobs.proofs.JobOrder.{before_one_way}
-
--- ---- the order is strict
-
-never_before_itself : (j : Job) → JobComesBefore j j → ⊥
-never_before_itself j h = before_one_way j j h h
-
-before_chain : (x y z : Job) → JobComesBefore x y → JobComesBefore y z → JobComesBefore x z
-before_chain (Generator x) (Generator y) (Generator z) h k = let u : x < y = h in let v : y < z = k in omega arith
-before_chain (Generator x) y (Pair e f) h k = tt
-before_chain (Generator x) (Pair c d) (Generator z) h k = absurd k
-before_chain (Pair a b) (Generator y) z h k = absurd h
-before_chain (Pair a b) (Pair c d) (Generator z) h k = absurd k
-before_chain (Pair a b) (Pair c d) (Pair e f) h k = both h k
-  where
-    both : (a < c) ⊎ ((a ≡ c) × (b < d)) → (c < e) ⊎ ((c ≡ e) × (d < f)) → (a < e) ⊎ ((a ≡ e) × (b < f))
-    both (inl x) (inl y) = inl (omega arith)
-    both (inl x) (inr y) = let s : c ≡ e = y.0 in inl (omega arith)
-    both (inr x) (inl y) = let s : a ≡ c = x.0 in inl (omega arith)
-    both (inr x) (inr y) =
-        let s : a ≡ c = x.0 in let t : c ≡ e = y.0 in let u : b < d = x.1 in let v : d < f = y.1 in inr (omega arith, omega arith)
 
 -- ---- the jobs of the shorter list
 
@@ -58,8 +38,7 @@ old_is_job i ms ns (Pair a b) h e = (h.0, h.1, last (nat_le (length ms + 1) b) r
 job_is_old : (i : Problem) (ms ns : List Binomial) (j : Job) → IsJob i ms j → IsJob i (ms ++ ns) j × (is_old ms j ≡ true)
 job_is_old i ms ns (Generator j) h = (h, refl)
 job_is_old i ms ns (Pair a b) h =
-    let l : b ≤ length ms = h.2 in
-    ((h.0, h.1, omega (arith, length-append ms ns)), ap not (lt-leb (length ms + 1) b (omega arith)))
+    let l : b ≤ length ms = h.2 in (job_stays i ms ns (Pair a b) h, ap not (lt-leb (length ms + 1) b (omega arith)))
 
 old_jobs : (i : Problem) (ms ns : List Binomial) → filter (is_old ms) (all_jobs i (ms ++ ns)) ≡ all_jobs i ms
 old_jobs i ms ns =

@@ -83,7 +83,7 @@ not_after_antisymm (Pair a b) (Pair c d) m n =
     let y : d ≤ b = (not_after_pair c d a b n).1 (omega arith) in
     ap₂ Pair (omega arith) (omega arith)
 
-pub before_one_way : (j k : Job) → JobComesBefore j k → NotAfter j k
+before_one_way : (j k : Job) → JobComesBefore j k → NotAfter j k
 before_one_way (Generator j) (Generator k) h n = let u : j < k = h in let v : k < j = n in omega arith
 before_one_way (Generator j) (Pair c d) h n = n
 before_one_way (Pair a b) (Generator k) h n = h

@@ -1,13 +1,11 @@
 -- What bounds the grades of jobs, and so levels.
-use Rattle.std.proofs.Common.{ℕ, ◌+◌, ◌*◌, ◌≤◌, ◌<◌, ◌≡◌, Some, List, [], length, get_or, refl, sym, subst, ◌∙◌, arith, zero, suc}
+use Rattle.std.proofs.Common.{ℕ, ◌+◌, ◌*◌, ◌≤◌, ◌<◌, ◌≡◌, Some, List, [], length, get_or, sym, subst, ◌∙◌, arith, zero, suc}
 use Rattle.std.proofs.lemmas.List.Elements.{All-get_or}
 use Rattle.ct_vectors.specs.declared.limits.TheConstants.{ROW_LIMIT, ENTRY_LIMIT, GRADE_LIMIT, JOB_GRADE_LIMIT}
-use Rattle.ct_vectors.specs.Vectors.{total, add, lcm}
-use Rattle.ct_vectors.proofs.Sums.{length-add_same}
-use Rattle.ct_vectors.proofs.Divisors.{Divides-add, Divides-add_left, lcm-divides, length-lcm}
+use Rattle.ct_vectors.specs.Vectors.{total, lcm}
 use Rattle.ct_instance.specs.declared.jobs.Job.{Job}
 use Rattle.ct_instance.specs.declared.jobs.Job.TheVariants.{Generator, Pair}
-use Rattle.ct_instance.specs.Instance.{Problem, IsInstance, IsColumn, IsPoint, column_count, grade_of}
+use Rattle.ct_instance.specs.Instance.{Problem, IsInstance, IsColumn, column_count, grade_of}
 use Rattle.ct_instance.specs.TestSet.{Binomial, IsTestList}
 use Rattle.ct_instance.specs.Jobs.{IsJob, all_jobs, job_grade_of, the_move}
 use Rattle.ct_instance.specs.Versions.{version_list, IsVersion}
@@ -15,12 +13,11 @@ use Rattle.ct_instance.specs.Reach.{opened_grade, last_opened}
 use Rattle.ct_instance.proofs.Lists.{map_gives}
 use Rattle.ct_instance.proofs.Degree.{grade-lcm}
 use Rattle.ct_vectors.proofs.Sums.{total-limit}
-use Rattle.ct_instance.proofs.TestList.{move_is_sound}
 use Rattle.ct_instance.proofs.JobsList.{jobs_listed}
 use Rattle.ct_instance.proofs.Above.{least_above_some}
-use Rattle.ct_walk.proofs.Ends.{the_column_is, the_move_at}
-use Rattle.ct_walk.proofs.Steps.{move_at_listed}
+use Rattle.ct_walk.proofs.Ends.{the_column_is}
 use Rattle.ct_levels.specs.Levels.{job_grades}
+use Rattle.ct_levels.proofs.Numbered.{the_test_move}
 use Rattle.ct_levels.proofs.Levels.{opened_is_next}
 use Rattle.ct_levels.proofs.Lists.{list_of_opened}
 
@@ -31,14 +28,6 @@ column_small i s j l =
     let wide : length (get_or i.columns j []) ≤ ROW_LIMIT = omega (arith, c.entries, s.row_limit) in
     let sum : total (get_or i.columns j []) ≤ length (get_or i.columns j []) * ENTRY_LIMIT = total-limit ENTRY_LIMIT (get_or i.columns j []) c.limit in
     omega arith
-
--- the move with a number of a test list is one of its moves
-the_test_move : (i : Problem) (g : ℕ) (ms : List Binomial) → IsTestList i g ms → (k : ℕ) → 1 ≤ k → k ≤ length ms →
-    IsPoint i (the_move ms k).head × (grade_of i.columns (the_move ms k).head ≤ g)
-the_test_move i g ms t k a b =
-    let c = move_at_listed ms k (the_move ms k) (the_move_at ms k a b) in
-    let m = move_is_sound i g ms t (the_move ms k) c in
-    (((m.0).head).point, m.1)
 
 -- a job of a test list within the limit of grades is within the limit of jobs
 pub job_within : (i : Problem) → IsInstance i → (g : ℕ) (ms : List Binomial) → IsTestList i g ms → g ≤ GRADE_LIMIT → (j : Job) → IsJob i ms j → job_grade_of i ms j ≤ JOB_GRADE_LIMIT
@@ -53,7 +42,7 @@ job_within i s g ms t l (Pair a c) b =
     let m = the_test_move i g ms t a first (omega arith) in
     let n = the_test_move i g ms t c (omega arith) last in
     let sum : grade_of i.columns (lcm (the_move ms a).head (the_move ms c).head) ≤ grade_of i.columns (the_move ms a).head + grade_of i.columns (the_move ms c).head =
-    grade-lcm i.columns (the_move ms a).head (the_move ms c).head (m.0 ∙ sym n.0) in
+    grade-lcm i.columns (the_move ms a).head (the_move ms c).head (((m.0).head).point ∙ sym ((n.0).head).point) in
     omega (arith, m.1, n.1)
 
 -- where the grade that was opened last is within the limit of grades, the next is within the limit of jobs

@@ -1,3 +1,4 @@
+pub mod Numbered
 pub mod Levels
 pub mod Lists
 pub mod Bounds
@@ -5,3 +6,5 @@ pub mod Covering
 pub mod Full
 pub mod Reach
 pub mod Walks
+pub mod Whole
+pub mod Counting

@@ -4,12 +4,12 @@ use Rattle.std.specs.Prelude.{ℕ, ◌+◌, ◌-◌, ◌≤◌, ◌<◌, ◌≡�
 use Rattle.ct_vectors.specs.declared.limits.TheConstants.{GRADE_LIMIT, JOB_GRADE_LIMIT}
 use Rattle.ct_instance.specs.Instance.{Problem, IsInstance, IsPoint, degree_of, grade_of}
 use Rattle.ct_instance.specs.Fiber.{least_of}
-use Rattle.ct_instance.specs.TestSet.{test_list}
+use Rattle.ct_instance.specs.TestSet.{Binomial, test_list, IsTestList}
 use Rattle.ct_instance.specs.Walk.{IsWalk, IsWalkEnd}
 use Rattle.ct_instance.specs.Jobs.{jobs_at}
 use Rattle.ct_instance.specs.Versions.{upto, Covers, least_above, level_of, version_list, IsVersion, IsFullGrade}
 use Rattle.ct_instance.specs.Reach.{opened_grade, last_opened, first_version_from, first_level_from, full_grade_up_to, reach_of}
-use Rattle.ct_levels.specs.Levels.{job_grades, IsFirstVersion, IsOpenedWithin, IsLevelWithin}
+use Rattle.ct_levels.specs.Levels.{job_grades, AreGradesOf, IsFirstVersion, IsOpenedWithin, IsLevelWithin}
 
 -- ---- lists
 
@@ -67,6 +67,19 @@ GradeIsCovered = (i : Problem) (g k : ℕ) → IsFirstVersion i g k → IsVersio
 -- the test list of g is its list
 abbrev pub TestListIsOfFirst : Type 0
 TestListIsOfFirst = (i : Problem) → IsInstance i → (g : ℕ) → test_list i g ≡ version_list i (first_version_from i g)
+
+-- ---- versions before it, told by the whole list
+
+-- up to the first version that covers g, the opened grades are the next job grades of the test list of g
+abbrev pub OpenedIsNextOfWhole : Type 0
+OpenedIsNextOfWhole =
+    (i : Problem) → IsInstance i → (g k : ℕ) → k ≤ first_version_from i g → opened_grade i k ≡ least_above (last_opened i k) (job_grades i (test_list i g))
+
+-- so the number of that version counts the grades of the jobs up to g
+abbrev pub GradesCountVersions : Type 0
+GradesCountVersions =
+    (i : Problem) → IsInstance i → (g : ℕ) (ms : List Binomial) → IsTestList i g ms → (grades : List ℕ) → AreGradesOf i ms g grades →
+    length grades ≡ first_version_from i g
 
 -- ---- walks
 

@@ -1,8 +1,8 @@
 -- Words on versions and their levels that the laws share.
-use Rattle.std.specs.Prelude.{ℕ, ◌-◌, ◌≤◌, ◌<◌, ◌≡◌, List, map, length}
+use Rattle.std.specs.Prelude.{ℕ, ◌-◌, ◌≤◌, ◌<◌, ◌≡◌, ◌↔◌, List, map, length, Contains, AllPairs}
 use Rattle.ct_instance.specs.Instance.{Problem}
 use Rattle.ct_instance.specs.TestSet.{Binomial}
-use Rattle.ct_instance.specs.Jobs.{all_jobs, job_grade_of}
+use Rattle.ct_instance.specs.Jobs.{all_jobs, job_grade_of, jobs_up_to}
 use Rattle.ct_instance.specs.Versions.{Level, upto, Covers, level_of, version_list, IsVersion}
 
 -- the grades of all jobs of a list of moves, in job order
@@ -20,6 +20,11 @@ pub record IsOpenedWithin (i : Problem) (limit f k : ℕ) : Type 0 where
   pub some : 1 ≤ f
   pub level : level_of i k ≡ upto (f - 1)
   pub within : length (version_list i k) ≤ limit
+
+-- these are the grades up to g of the jobs of a list of moves, each once, a smaller one first
+pub record AreGradesOf (i : Problem) (ms : List Binomial) (g : ℕ) (grades : List ℕ) : Type 0 where
+  pub rising : AllPairs (λ (d e : ℕ). d < e) grades
+  pub each : (e : ℕ) → Contains grades e ↔ Contains (map (job_grade_of i ms) (jobs_up_to i ms g)) e
 
 -- the level is that of a version whose list has at most the limit
 pub record IsLevelWithin (i : Problem) (limit : ℕ) (level : Level) : Type 0 where

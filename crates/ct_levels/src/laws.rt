@@ -1,6 +1,6 @@
 //! Laws of versions and levels, as contracts of functions that do nothing.
 
-ghost use Rattle.ct_levels.specs.Laws.{ListIsTestList, ListIsLaterTestList, OpenedIsNextJobGrade, OpenedHasJob, OpenedIsWithin, OpenedIsCovered, LevelsRise, NumberIsWithin, VersionsStandBefore, FirstVersionIsOne, GradeIsCovered, TestListIsOfFirst, VersionWalks, VersionWalkEndsAtLeast, OpenedIsFull, FullIsOpened, WithinIsBelowFull, FullGradeIsFound, NoFullGrade, ReachWhereFull, ReachWhereWithin, ReachIsLevel, ReachCovers, ReachRises};
+ghost use Rattle.ct_levels.specs.Laws.{ListIsTestList, ListIsLaterTestList, OpenedIsNextJobGrade, OpenedHasJob, OpenedIsWithin, OpenedIsCovered, LevelsRise, NumberIsWithin, VersionsStandBefore, FirstVersionIsOne, GradeIsCovered, TestListIsOfFirst, OpenedIsNextOfWhole, GradesCountVersions, VersionWalks, VersionWalkEndsAtLeast, OpenedIsFull, FullIsOpened, WithinIsBelowFull, FullGradeIsFound, NoFullGrade, ReachWhereFull, ReachWhereWithin, ReachIsLevel, ReachCovers, ReachRises};
 
 /// A version's list is the test list of each grade from the one that was opened last up to its level.
 pub fn versions_have_test_lists()
@@ -24,6 +24,13 @@ pub fn each_grade_is_covered()
     ensures one { FirstVersionIsOne }
     ensures version { GradeIsCovered }
     ensures list { TestListIsOfFirst }
+{}
+
+/// Up to the first version that covers a grade, the grade that each version opens is the next job grade of the test list
+/// of that grade. So that version's number counts the grades of the jobs up to the grade.
+pub fn whole_list_tells_openings()
+    ensures opened { OpenedIsNextOfWhole }
+    ensures count { GradesCountVersions }
 {}
 
 /// A point that a version covers walks by the version's list as by the test list of its grade, to the least point.

@@ -29,6 +29,10 @@ the_move_at ms (suc k) l h =
 pub the_move_stays : (ms ns : List Binomial) (k : ℕ) → 1 ≤ k → k ≤ length ms → the_move (ms ++ ns) k ≡ the_move ms k
 the_move_stays ms ns k l h = the_move_is (ms ++ ns) k (the_move ms k) (move_at-append ms ns k (the_move ms k) (the_move_at ms k l h))
 
+pub job_stays : (i : Problem) (ms ns : List Binomial) (j : Job) → IsJob i ms j → IsJob i (ms ++ ns) j
+job_stays i ms ns (Generator j) h = h
+job_stays i ms ns (Pair a b) h = let last : b ≤ length ms = h.2 in (h.0, h.1, omega (arith, length-append ms ns))
+
 pub grade_stays : (i : Problem) (ms ns : List Binomial) (j : Job) → IsJob i ms j → job_grade_of i (ms ++ ns) j ≡ job_grade_of i ms j
 grade_stays i ms ns (Generator j) h = refl
 grade_stays i ms ns (Pair a b) h =

@@ -8,3 +8,4 @@ pub mod Followed
 pub mod Openings
 pub mod MoveFacts
 pub mod SlabFacts
+pub mod StrictJobs

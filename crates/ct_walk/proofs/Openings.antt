@@ -25,6 +25,23 @@ use Rattle.ct_walk.proofs.Pairs.{one_normal_point}
 abbrev pub NoJobBetween : Problem → List Binomial → ℕ → ℕ → Type 0
 NoJobBetween i ms d g = (j : Job) → IsJob i ms j → d < job_grade_of i ms j → job_grade_of i ms j ≤ g → ⊥
 
+-- ---- where a fiber has its one normal point
+
+-- a test head of the fiber is a head of the list, where the list has only test heads
+pub head_is_listed : (i : Problem) (ms : List Binomial) → ((m : Binomial) → Contains ms m → IsTestHead i m.head) → (p : List ℕ) → IsTestHead i p →
+    HasOneNormalPoint i ms (degree_of i.columns p) → Contains (map (λ m. m.head) ms) p
+head_is_listed i ms only p h one = found (first_dividing ms p) refl
+  where
+    found : (o : Option ℕ) → first_dividing ms p ≡ o → Contains (map (λ m. m.head) ms) p
+    found None e =
+        absurd (least_not_improvable i (degree_of i.columns p) p
+        (subst (IsLeast i (degree_of i.columns p)) (sym (one.only p (in_own_fiber i p h.point) e)) one.least) h.improvable)
+    found (Some n) e =
+        let f = dividing_gives ms p n e in
+        let c : Contains ms f.0 = move_at_listed ms n f.0 f.1 in
+        let head : IsTestHead i f.0.head = only f.0 c in
+        subst (Contains (map (λ m. m.head) ms)) (minimal_is i p f.0.head h head.point head.improvable f.2) (Contains-map (λ m. m.head) ms f.0 c)
+
 -- ---- from one bound on degrees to another
 
 -- Both bounds pass to parts. Where each test head within the first is a head of the list, the list has only test heads,
@@ -50,17 +67,7 @@ module _ (i : Problem) (s : IsInstance i) (ms : List Binomial) (moves : AreMoves
 
   pub heads_within : ((m : Binomial) → Contains ms m → IsTestHead i m.head) → (p : List ℕ) → IsTestHead i p → Large (degree_of i.columns p) →
       Contains (map (λ m. m.head) ms) p
-  heads_within only p h l = found (normal_within (degree_of i.columns p) (degree_is_right i s p h.point) l) (first_dividing ms p) refl
-    where
-      found : HasOneNormalPoint i ms (degree_of i.columns p) → (o : Option ℕ) → first_dividing ms p ≡ o → Contains (map (λ m. m.head) ms) p
-      found one None e =
-          absurd (least_not_improvable i (degree_of i.columns p) p
-          (subst (IsLeast i (degree_of i.columns p)) (sym (one.only p (in_own_fiber i p h.point) e)) one.least) h.improvable)
-      found one (Some n) e =
-          let f = dividing_gives ms p n e in
-          let c : Contains ms f.0 = move_at_listed ms n f.0 f.1 in
-          let head : IsTestHead i f.0.head = only f.0 c in
-          subst (Contains (map (λ m. m.head) ms)) (minimal_is i p f.0.head h head.point head.improvable f.2) (Contains-map (λ m. m.head) ms f.0 c)
+  heads_within only p h l = head_is_listed i ms only p h (normal_within (degree_of i.columns p) (degree_is_right i s p h.point) l)
 
 -- ---- from one grade to another
 

@@ -7,7 +7,8 @@ use Rattle.ct_instance.specs.Versions.{version_list}
 use Rattle.ct_jobs.specs.GradedJobs.{next_grade, AreJobsOf}
 use Rattle.ct_book.specs.Insides.{fresh}
 use Rattle.ct_book.specs.Openings.{HasOpenedJobs}
-use Rattle.ct_book.proofs.OpenedJobs.{opened_is, opened_none}
+use Rattle.ct_completion.proofs.Remainders.{opened_is}
+use Rattle.ct_book.proofs.OpenedJobs.{opened_none}
 use Rattle.ct_book.proofs.opening.opened_above.Goals as goal
 
 pub returns-in-None-clause-jobs : goal.returns-in-None-clause-jobs

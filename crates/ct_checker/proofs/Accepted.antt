@@ -34,7 +34,7 @@ module _ (i : Problem) (s : IsInstance i) (l : LedgerParts) (within : IsLedger l
       All-map (λ m. (length m.head ≡ l.columns + l.rows) × (length m.tail ≡ l.columns + l.rows)) (λ m. record { head = m.0; tail = m.1 }) l.moves
       (λ k d h. ((within.moves k d h).head.numbers, (within.moves k d h).tail.numbers))
 
-  ledger_moves : AreMoves i (moves_of l)
+  pub ledger_moves : AreMoves i (moves_of l)
   ledger_moves k d h = record {
     head = omega (arith, (sizes k d h).0, a.rows, a.columns);
     tail = omega (arith, (sizes k d h).1, a.rows, a.columns);

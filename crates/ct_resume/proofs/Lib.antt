@@ -1,0 +1,4 @@
+pub mod Tests
+pub mod Worked
+pub mod TestLists
+pub mod Ledgers

@@ -9,3 +9,4 @@ pub mod Openings
 pub mod MoveFacts
 pub mod SlabFacts
 pub mod StrictJobs
+pub mod TwoWalks

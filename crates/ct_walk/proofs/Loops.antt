@@ -1,5 +1,5 @@
 -- For the loops: the scan for the first move that divides, and the walk step by step.
-use Rattle.std.proofs.Common.{ℕ, ◌+◌, ◌<◌, ◌≡◌, Bool, true, false, cond, Option, Some, None, List, [], ◌∷◌, ◌++◌, length, get_or, take, refl, sym, subst, ap, ap₂, ◌∙◌, arith, zero, suc, append_assoc, append-nil, add-one}
+use Rattle.std.proofs.Common.{ℕ, ◌+◌, ◌<◌, ◌≡◌, Bool, true, false, cond, Option, Some, None, List, [], ◌∷◌, ◌++◌, length, get_or, take, refl, sym, subst, ap, ap₂, ◌∙◌, arith, zero, suc, append_assoc, append-nil}
 use Rattle.std.specs.Option.{option_map}
 use Rattle.ct_vectors.specs.Vectors.{divides}
 use Rattle.ct_instance.specs.Instance.{Problem, IsInstance, IsPoint, grade_of}

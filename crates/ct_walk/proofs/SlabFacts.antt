@@ -1,5 +1,5 @@
 -- The slabs of a list of moves.
-use Rattle.std.proofs.Common.{ℕ, ◌+◌, ◌-◌, ◌*◌, ◌/◌, ◌%◌, ◌≤◌, ◌<◌, ◌≡◌, ◌≢◌, inl, inr, Bool, true, false, cond, Option, Some, None, List, [], ◌∷◌, ◌++◌, All, length, get_or, take, map, refl, sym, subst, ap, ◌∙◌, arith, slice_get, unwrap_or, zero, suc, add-one, append_assoc, append-nil}
+use Rattle.std.proofs.Common.{ℕ, ◌+◌, ◌-◌, ◌≤◌, ◌<◌, ◌≡◌, inl, inr, Bool, false, cond, Option, Some, None, List, [], ◌∷◌, ◌++◌, All, length, get_or, take, map, refl, sym, subst, ap, ◌∙◌, arith, slice_get, unwrap_or, zero, suc, add-one, append_assoc, append-nil}
 use Rattle.std.specs.Option.{option_map}
 use Rattle.std.specs.List.{flat_map, position}
 use Rattle.std.specs.Arc.{arc_value}

@@ -5,7 +5,7 @@ use Rattle.ct_vectors.specs.Vectors.{scale, Divides}
 use Rattle.ct_instance.specs.Instance.{Problem, IsInstance, degree_of, grade_of}
 use Rattle.ct_instance.specs.Fiber.{IsBelow}
 use Rattle.ct_instance.specs.TestSet.{Binomial}
-use Rattle.ct_instance.specs.Walk.{IsMove, moved}
+use Rattle.ct_instance.specs.Walk.{IsMove, IsStep, IsWalkEnd, moved}
 use Rattle.ct_instance.specs.Jobs.{the_move}
 use Rattle.ct_walk.specs.declared.faults.MoveFault.{MoveFault}
 use Rattle.ct_walk.specs.declared.faults.MoveFault.TheVariants.{Grade, Degree, Order}
@@ -54,3 +54,14 @@ pub record IsRefused (ms : List Binomial) (p : List ℕ) (steps : List (ℕ × �
   pub within : k < length steps
   pub before : Follows ms p (take k steps) q
   pub refused : (number times : ℕ) → slice_get steps k ≡ Some (number, times) → CanApply ms q number times → ⊥
+
+-- the walks of p and of q end at one point
+pub record HaveOneEnd (ms : List Binomial) (p q : List ℕ) : Type 0 where
+  pub end : List ℕ
+  pub first : IsWalkEnd ms p end
+  pub second : IsWalkEnd ms q end
+
+-- of two points p and q one takes a step of its walk, and the other stays; then they are r and s
+pub data OneSteps (ms : List Binomial) (p q r s : List ℕ) : Type 0 where
+  first_steps : (number times : ℕ) → IsStep ms p number times r → s ≡ q → OneSteps ms p q r s
+  second_steps : (number times : ℕ) → IsStep ms q number times s → r ≡ p → OneSteps ms p q r s

@@ -28,7 +28,8 @@ pub fn have_one_degree(inst: &Instance, head: &Point, tail: &Point) -> bool
     are_equal(&of_tail[..rows], &of_head[..rows])
 }
 
-fn are_equal(p: &[u64], q: &[u64]) -> bool
+// Whether the coordinates are the same.
+pub fn are_equal(p: &[u64], q: &[u64]) -> bool
     ensures { IsTrue result ↔ (p.now ≡ q.now) }
 {
     p == q

@@ -7,6 +7,7 @@ ghost use Rattle.ct_walk.specs.Moves.{IsFault};
 
 use crate::degrees::{have_one_degree, is_below};
 use crate::faults::MoveFault;
+use crate::heights::Height;
 use ct_index::HasHead;
 use ct_instance::Instance;
 use ct_point::Point;
@@ -19,6 +20,7 @@ use std::marker::Model;
 pub struct Move {
     head: Point,
     tail: Point,
+    rise: Height,
 }
 
 impl Model for Move {
@@ -49,7 +51,8 @@ impl Move {
         if !is_below(inst, &tail, &head) {
             return Err(MoveFault::Order);
         }
-        Ok(Move { head, tail })
+        let rise = Height::of(inst, &tail).less(Height::of(inst, &head));
+        Ok(Move { head, tail, rise })
     }
 
     /// What is taken away.
@@ -66,13 +69,22 @@ impl Move {
         &self.tail
     }
 
+    // By how much the tail is above the head: the order has it below, so artificials or costs mostly fall.
+    pub(crate) fn rise(&self) -> Height {
+        self.rise
+    }
+
     /// An equal move.
     pub fn copy(&self, alloc: Global) -> Result<Move, AllocError>
         ensures { IfOk result (λ m. m ≡ self.now) }
     {
         let head = self.head.copy(alloc)?;
         let tail = self.tail.copy(alloc)?;
-        Ok(Move { head, tail })
+        Ok(Move {
+            head,
+            tail,
+            rise: self.rise,
+        })
     }
 }
 

@@ -5,7 +5,7 @@ ghost use Rattle.ct_instance.specs.Instance.{IsPoint};
 ghost use Rattle.std.specs.Arc.{arc_value};
 ghost use Rattle.ct_walk.specs.Moves.{IsSmallMove};
 
-use crate::{Move, MoveFault, Moves, follow, walk, walk_end};
+use crate::{Move, MoveFault, Moves, follow, have_one_end, walk, walk_end};
 use ct_instance::Instance;
 use ct_point::Point;
 use ct_vectors::limits::GRADE_LIMIT;
@@ -160,4 +160,50 @@ fn a_walk_of_three_steps_by_two_moves_and_three_more(rt: HostRuntime) {
     let (steps, end) = walk(alloc, &moves, start).expect(&rt, "room").into_parts();
     assert!(rt; steps.as_slice() == [(1, 2), (3, 1), (5, 2)].as_slice());
     assert!(rt; end.as_slice() == [3, 6, 0].as_slice());
+}
+
+// Two points and where their walks end, if not at one point: by all five moves, and by the first two.
+type Pair = ([u64; 3], [u64; 3], Option<([u64; 3], [u64; 3])>);
+
+const BY_FIVE: [Pair; 3] = [
+    ([0, 0, 15], [5, 0, 0], None),
+    ([1, 0, 3], [1, 0, 3], None),
+    ([0, 0, 1_000_000_000_000], [1, 1, 999_999_999_992], None),
+];
+
+const BY_TWO: [Pair; 4] = [
+    ([1, 0, 3], [0, 0, 6], None),
+    ([0, 0, 5], [1, 0, 2], None),
+    ([0, 1, 1], [0, 0, 6], Some(([0, 1, 1], [2, 0, 0]))),
+    ([0, 0, 9], [0, 1, 4], Some(([3, 0, 0], [1, 1, 1]))),
+];
+
+fn expect_ends(rt: &impl Abort, alloc: Global, inst: &Arc<Instance>, moves: &Moves, pair: Pair)
+    requires { moves.now.instance ≡ arc_value inst.now }
+{
+    let (first, second, ends) = pair;
+    let mut p = point(rt, alloc, inst, first);
+    let mut q = point(rt, alloc, inst, second);
+    assert!(rt; inst.grade_wide(&p) <= GRADE_LIMIT as u128);
+    assert!(rt; inst.grade_wide(&q) <= GRADE_LIMIT as u128);
+    assert!(rt; have_one_end(moves, &mut p, &mut q) == ends.is_none());
+    if let Some((first, second)) = ends {
+        assert!(rt; p.as_slice() == first.as_slice() && q.as_slice() == second.as_slice());
+    }
+}
+
+#[test]
+fn walks_that_come_to_one_point_have_one_end(rt: HostRuntime) {
+    let alloc = rt.alloc();
+    let inst = coins(&rt, alloc);
+    let mut two = Moves::new(alloc, Arc::try_clone(&inst).expect(&rt, "another owner"));
+    add(&rt, alloc, &mut two, &inst, 0);
+    add(&rt, alloc, &mut two, &inst, 1);
+    for pair in BY_TWO {
+        expect_ends(&rt, alloc, &inst, &two, pair);
+    }
+    let five = five_moves(&rt, alloc, &inst);
+    for pair in BY_FIVE {
+        expect_ends(&rt, alloc, &inst, &five, pair);
+    }
 }

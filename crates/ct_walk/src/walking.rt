@@ -41,7 +41,7 @@ pub fn walk_end(moves: &Moves, p: &mut Point)
 }
 
 // One step of the walk: the first move that fits, as many times as it fits. Where none fits, the point stays.
-fn step_on(moves: &Moves, p: &mut Point) -> Option<(u32, u64)>
+pub fn step_on(moves: &Moves, p: &mut Point) -> Option<(u32, u64)>
     requires point { IsPoint moves.now.instance p.old }
     requires grade { grade_of moves.now.instance.columns p.old ≤ GRADE_LIMIT }
     ensures step { MatchOption result (IsNormal moves.now.moves p.old × (p.new ≡ p.old)) (λ s. IsStep moves.now.moves p.old s.0 s.1 p.new) }

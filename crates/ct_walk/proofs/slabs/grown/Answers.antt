@@ -1,9 +1,8 @@
-use Rattle.std.proofs.Common.{ℕ, ◌≡◌, ◌+◌, ◌<◌, ◌≤◌, List, [], ◌∷◌, ◌++◌, All, length, get_or, sym, ◌∙◌, subst, ap, arith, refl, append-nil, append_assoc, IsTrue, false}
+use Rattle.std.proofs.Common.{◌≡◌, ◌+◌, ◌<◌, ◌≤◌, List, [], ◌∷◌, ◌++◌, All, length, sym, ◌∙◌, subst, ap, arith, append-nil, append_assoc, IsTrue, false}
 use Rattle.std.specs.List.{flat_map}
 use Rattle.std.specs.Arc.{arc_value}
 use Rattle.std.specs.Vec.Iter.{into_iter_items}
 use Rattle.std.proofs.lemmas.List.{nil_from_length, get_or-append-add, get_or_append_left, length-append}
-use Rattle.std.proofs.lemmas.List.Elements.{All-append}
 use Rattle.ct_vectors.specs.declared.limits.TheConstants.{MOVE_LIMIT}
 use Rattle.ct_index.specs.Pages.{IsPaged}
 use Rattle.ct_instance.specs.Instance.{Problem}

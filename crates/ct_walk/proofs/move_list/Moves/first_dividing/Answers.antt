@@ -1,4 +1,4 @@
-use Rattle.std.proofs.Common.{ℕ, ◌≡◌, ◌+◌, ◌*◌, ◌≤◌, ◌<◌, List, [], All, length, get_or, take, sym, ◌∙◌, subst, ap, arith, Option, Some, None, suc, add-one}
+use Rattle.std.proofs.Common.{ℕ, ◌≡◌, ◌+◌, ◌*◌, ◌≤◌, ◌<◌, List, [], All, length, get_or, take, sym, ◌∙◌, subst, ap, arith, Some, None, suc, add-one}
 use Rattle.std.specs.Option.{option_map}
 use Rattle.std.specs.List.{position, flat_map}
 use Rattle.std.specs.Arc.{arc_value}

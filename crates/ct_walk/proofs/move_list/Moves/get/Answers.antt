@@ -1,9 +1,8 @@
-use Rattle.std.proofs.Common.{ℕ, ◌≡◌, ◌-◌, ◌/◌, ◌%◌, ◌<◌, List, length, get_or, sym, ◌∙◌, subst, ap, arith}
+use Rattle.std.proofs.Common.{◌≡◌, ◌-◌, ◌/◌, ◌%◌, ◌<◌, length, get_or, sym, ◌∙◌, subst, ap, arith}
 use Rattle.std.specs.List.{flat_map}
 use Rattle.std.specs.Arc.{arc_value}
 use Rattle.ct_index.proofs.Pages.{paged_page, paged_within, paged_at}
-use Rattle.ct_instance.specs.TestSet.{Binomial}
-use Rattle.ct_walk.specs.Moves.{MoveList, IsSmallMove}
+use Rattle.ct_walk.specs.Moves.{IsSmallMove}
 use Rattle.ct_walk.proofs.SlabFacts.{the_move_get}
 use Rattle.ct_walk.proofs.move_list.Moves.get.Goals as goal
 

@@ -1,4 +1,4 @@
-use Rattle.std.proofs.Common.{ℕ, ◌≡◌, ◌≤◌, eqb, eqb-true, true, List, [], ◌∷◌, ◌++◌, All, length, map, sym, ◌∙◌, subst, ap, arith, append-nil}
+use Rattle.std.proofs.Common.{◌≡◌, eqb-true, [], ◌++◌, All, map, sym, ◌∙◌, subst, ap, arith, append-nil}
 use Rattle.std.specs.List.{flat_map}
 use Rattle.std.specs.Arc.{arc_value}
 use Rattle.std.proofs.lemmas.List.{nil_from_length}

@@ -1,6 +1,5 @@
 pub mod Logs
 pub mod Queues
-pub mod JobEnds
 pub mod OpenedJobs
 pub mod Keeping
 pub mod LevelsSoFar

@@ -1,14 +1,16 @@
 //! Several jobs at once.
 ghost use Rattle.std.specs.Prelude.{◌≡◌, ◌<◌, ◌≤◌, ◌∷◌, [], ℕ, false, length, map, reverse, All, IfOk};
 ghost use Rattle.ct_vectors.specs.declared.limits.TheConstants.{GRADE_LIMIT};
+ghost use Rattle.ct_instance.specs.Instance.{IsPoint};
 ghost use Rattle.ct_book.specs.Tasks.{IsTask, IsHeld, task_of, placed, left_at};
 ghost use Rattle.ct_book.specs.Books.{CountsRise, IsCovered, edition_of};
 ghost use Rattle.ct_book.specs.Batches.{AreHandedOut, AreCommitted};
 
 use crate::books::Book;
-use crate::reducing::left_by;
+use crate::reducing::{blank, left_by};
 use crate::remainders::Left;
 use crate::tasks::{PlacedJob, Task};
+use ct_point::Point;
 use ct_version::Version;
 use std::alloc::{AllocError, Global};
 use std::marker::Model;
@@ -22,7 +24,7 @@ const ROOM: usize = 63;
 const PART: usize = 4;
 
 /// The jobs that a worker has at once, beside the first of them, against whose version they are. It has no memory until it
-/// first reduces jobs, and then keeps room for 63 of them, 1.5 kB.
+/// first reduces jobs, and then keeps room for 63 of them, 1.5 kB, if there is memory for that.
 #[derive(Drop)]
 pub struct Batch {
     pub(crate) jobs: Vec<PlacedJob>,
@@ -69,7 +71,7 @@ impl Batch {
     }
 
     /// Reduces the jobs, from the last to the first, so that what they leave is taken in in their order. Beside what a
-    /// job leaves it takes 32 bytes a job.
+    /// job leaves it takes 32 bytes a job, and two points for all of them.
     pub fn reduce(&mut self, alloc: Global, first: Task) -> Result<Reduced, AllocError>
         requires { All (λ p. IsTask (placed first.version p)) self.old }
         ensures jobs { self.new ≡ [] }
@@ -87,7 +89,7 @@ impl Batch {
 }
 
 // What the jobs leave, from the last to the first, and what this one leaves after them. It makes the room for as many jobs
-// again.
+// again; where that is refused, nothing is lost but that fewer are handed out.
 fn reduce_all(
     alloc: Global,
     version: &Version,
@@ -100,22 +102,34 @@ fn reduce_all(
     ensures reduced { IfOk result (λ ls. map task_of (map (left_at version.now) ls.items) ≡ reverse (placed version.now first ∷ map (placed version.now) jobs.old.items)) }
 {
     let mut left = Vec::with_capacity(alloc, jobs.len() + 1)?;
+    let mut p = blank(alloc, version)?;
+    let mut q = blank(alloc, version)?;
     while let Some(job) = jobs.pop() {
-        left.push(left_of_job(alloc, version, job)?)?;
+        left.push(left_of_job(alloc, version, job, &mut p, &mut q)?)?;
     }
-    left.push(left_of_job(alloc, version, first)?)?;
-    jobs.reserve(ROOM)?;
+    left.push(left_of_job(alloc, version, first, &mut p, &mut q)?)?;
+    let _has_room = jobs.reserve(ROOM).is_ok();
     Ok(left)
 }
 
 // What a job of the version's grade leaves.
-fn left_of_job(alloc: Global, version: &Version, at: PlacedJob) -> Result<Left, AllocError>
-    requires { IsTask (placed version.now at) }
+fn left_of_job(
+    alloc: Global,
+    version: &Version,
+    at: PlacedJob,
+    p: &mut Point,
+    q: &mut Point,
+) -> Result<Left, AllocError>
+    requires task { IsTask (placed version.now at) }
+    requires first_point { IsPoint version.now.instance p.old }
+    requires second_point { IsPoint version.now.instance q.old }
+    ensures first_stays_point { IsPoint version.now.instance p.new }
+    ensures second_stays_point { IsPoint version.now.instance q.new }
     ensures held { IfOk result (λ l. IsHeld (left_at version.now l)) }
     ensures task { IfOk result (λ l. task_of (left_at version.now l) ≡ placed version.now at) }
 {
     let PlacedJob { place, job } = at;
-    let points = left_by(alloc, version, job)?;
+    let points = left_by(alloc, version, job, p, q)?;
     Ok(Left { place, job, points })
 }
 

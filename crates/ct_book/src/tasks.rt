@@ -1,7 +1,12 @@
 //! A job that is handed out.
-ghost use Rattle.std.specs.Prelude.{◌≡◌, IfOk, IfErr};
+ghost use Rattle.std.specs.Prelude.{◌≡◌, ◌≤◌, IfOk, IfErr};
+ghost use Rattle.ct_vectors.specs.declared.limits.TheConstants.{GRADE_LIMIT};
+ghost use Rattle.ct_instance.specs.Jobs.{IsJob, job_grade_of};
+ghost use Rattle.ct_instance.specs.Versions.{version_list, IsRemainder};
+ghost use Rattle.ct_book.specs.Queues.{points_seen};
 
-use crate::reducing::left_by;
+use crate::ends::Ends;
+use crate::reducing::{blank, left_by};
 use crate::remainders::Remainder;
 use ct_instance::Job;
 use ct_version::Version;
@@ -71,7 +76,7 @@ impl Task {
         ensures ok { IfOk result (λ r. task_of r ≡ self) }
         ensures err { IfErr result (λ e. e.0 ≡ self) }
     {
-        match left_by(alloc, &self.version, self.job) {
+        match left_alone(alloc, &self.version, self.job) {
             Err(refused) => Err((self, refused)),
             Ok(points) => {
                 let Task {
@@ -83,4 +88,15 @@ impl Task {
             }
         }
     }
+}
+
+// What one job leaves against the version's list, over points of its own.
+fn left_alone(alloc: Global, version: &Version, job: Job) -> Result<Option<Box<Ends>>, AllocError>
+    requires job { IsJob version.now.instance (version_list version.now.instance version.now.number) job }
+    requires grade { job_grade_of version.now.instance (version_list version.now.instance version.now.number) job ≤ GRADE_LIMIT }
+    ensures { IfOk result (λ r. IsRemainder version.now.instance (version_list version.now.instance version.now.number) job (points_seen r)) }
+{
+    let mut first = blank(alloc, version)?;
+    let mut second = blank(alloc, version)?;
+    left_by(alloc, version, job, &mut first, &mut second)
 }

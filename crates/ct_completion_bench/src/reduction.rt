@@ -1,16 +1,14 @@
 //! The jobs of one grade, each by the walks of its ends.
-ghost use Rattle.std.specs.Prelude.{◌≡◌, ◌≤◌, All, IfOk, IsTrue};
-ghost use Rattle.ct_vectors.specs.declared.limits.TheConstants.{GRADE_LIMIT};
-ghost use Rattle.ct_instance.specs.Instance.{IsPoint};
-ghost use Rattle.ct_instance.specs.Jobs.{IsJob, job_grade_of};
+ghost use Rattle.std.specs.Prelude.{◌≡◌, All, IfOk, IsTrue};
+ghost use Rattle.ct_instance.specs.Jobs.{IsJob};
 ghost use Rattle.ct_groups.specs.Groups.{IsSmallPoint};
 
 use anyhow::{Result, ensure};
 use ct_instance::{Instance, Job};
-use ct_jobs::{coprime, ends_into, job_grade};
+use ct_jobs::{job_grade, reduce_job};
 use ct_point::Point;
 use ct_vectors::limits::GRADE_LIMIT;
-use ct_walk::{Moves, walk_end};
+use ct_walk::Moves;
 use std::alloc::Global;
 
 /// The points that are left of these jobs, of which two differ for each.
@@ -24,17 +22,13 @@ pub fn reduce(alloc: Global, inst: &Instance, moves: &Moves, jobs: &[Job]) -> Re
     let mut second = Point::zero(alloc, width)?;
     for job in jobs {
         ensure!(is_job(inst, moves, *job), "no job");
-        if coprime(moves, *job) {
-            continue;
-        }
         ensure!(
             job_grade(inst, moves, *job) <= GRADE_LIMIT,
             "a grade over the limit"
         );
         ensure!(first.as_slice().len() == width, "another width");
         ensure!(second.as_slice().len() == width, "another width");
-        walk_both(inst, moves, *job, &mut first, &mut second);
-        if first.as_slice() != second.as_slice() {
+        if reduce_job(moves, *job, &mut first, &mut second) {
             left.push(small(alloc, inst, &first)?)?;
             left.push(small(alloc, inst, &second)?)?;
         }
@@ -50,21 +44,6 @@ fn is_job(inst: &Instance, moves: &Moves, job: Job) -> bool
         Job::Generator(j) => 1 <= j && j as usize <= inst.columns(),
         Job::Pair(i, k) => 1 <= i && i < k && k <= moves.len(),
     }
-}
-
-// Writes where the walks of both ends come to.
-fn walk_both(inst: &Instance, moves: &Moves, job: Job, first: &mut Point, second: &mut Point)
-    requires instance { moves.now.instance ≡ inst.now }
-    requires job { IsJob inst.now moves.now.moves job }
-    requires grade { job_grade_of inst.now moves.now.moves job ≤ GRADE_LIMIT }
-    requires first_point { IsPoint inst.now first.old }
-    requires second_point { IsPoint inst.now second.old }
-{
-    // Called for what it ensures: these are moves of an instance within the limits.
-    let _inst = moves.instance();
-    ends_into(inst, moves, job, first, second);
-    walk_end(moves, first);
-    walk_end(moves, second);
 }
 
 // A copy of a point, once its grade is seen to be within the limit.

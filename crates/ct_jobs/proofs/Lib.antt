@@ -7,3 +7,4 @@ pub mod JobOrder
 pub mod OneGrade
 pub mod Growing
 pub mod ByGradeFacts
+pub mod JobEnds

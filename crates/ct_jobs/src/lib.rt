@@ -3,7 +3,8 @@
 //! `Buckets` holds the jobs of a list of moves as that grows. `prepare` lists the pairs with new moves, with their
 //! grades; `reserve` makes room for them, and then `absorb` takes them in and can't fail. Before that an addition may
 //! stand beside the buckets: `next_with` and `jobs_with` look at both. `ends`, `ends_into`, `job_grade` and `coprime` say
-//! what a job is about. `laws` ties the lists of graded jobs to the list of all jobs, from which the contracts speak.
+//! what a job is about, and `reduce_job` what it leaves. `laws` ties the lists of graded jobs to the list of all jobs, from
+//! which the contracts speak.
 #![tactic(auto)]
 
 mod addition;
@@ -14,6 +15,7 @@ mod graded;
 mod heads;
 pub mod laws;
 mod one_grade;
+mod reducing;
 mod scans;
 mod supports;
 
@@ -21,6 +23,7 @@ pub use addition::Addition;
 pub use buckets::Buckets;
 pub use critical::{coprime, ends, ends_into, job_grade};
 pub use graded::GradedJob;
+pub use reducing::reduce_job;
 
 #[cfg(test)]
 mod tests;

@@ -4,7 +4,7 @@ ghost use Rattle.ct_instance.specs.Instance.{IsPoint, column_count};
 ghost use Rattle.std.specs.Arc.{arc_value};
 ghost use Rattle.ct_instance.specs.Jobs.{IsJob};
 
-use crate::{Addition, Buckets, coprime, ends, ends_into, job_grade};
+use crate::{Addition, Buckets, coprime, ends, ends_into, job_grade, reduce_job};
 use ct_instance::{Instance, Job};
 use ct_point::Point;
 use ct_vectors::limits::{GRADE_LIMIT, MOVE_LIMIT, RIGHT_LIMIT};
@@ -120,7 +120,8 @@ fn the_twelve_jobs_of_five_moves(rt: HostRuntime) {
     assert!(rt; buckets.next_with(17, &Addition::none(alloc)) == None);
 }
 
-// Expects this grade, these ends and this answer on coprime heads of the job.
+// Expects this grade, these ends and this answer on coprime heads of the job, and that it leaves nothing against the whole
+// test set.
 fn expect_job(
     rt: &impl Abort,
     alloc: Global,
@@ -141,6 +142,7 @@ fn expect_job(
     let mut q = point(rt, alloc, inst, [7, 8, 9]);
     ends_into(inst, moves, job, &mut p, &mut q);
     assert!(rt; p.as_slice() == first.as_slice() && q.as_slice() == second.as_slice());
+    assert!(rt; grade <= GRADE_LIMIT && !reduce_job(moves, job, &mut p, &mut q));
 }
 
 #[test]
@@ -161,4 +163,27 @@ fn what_each_job_is_about(rt: HostRuntime) {
             }
         }
     }
+}
+
+// Against no moves the generator of 3 leaves its ends; against the first two moves that of 5 leaves nothing, and their
+// pair its ends.
+#[test]
+fn what_some_jobs_leave(rt: HostRuntime) {
+    let alloc = rt.alloc();
+    let inst = coins(&rt, alloc);
+    let mut moves = Moves::new(alloc, Arc::try_clone(&inst).expect(&rt, "another owner"));
+    let mut p = point(&rt, alloc, &inst, [7, 8, 9]);
+    let mut q = point(&rt, alloc, &inst, [7, 8, 9]);
+    assert!(rt; inst.columns() == 2);
+    assert!(rt; job_grade(&inst, &moves, Job::Generator(1)) == 3);
+    assert!(rt; reduce_job(&moves, Job::Generator(1), &mut p, &mut q));
+    assert!(rt; p.as_slice() == [1, 0, 0].as_slice() && q.as_slice() == [0, 0, 3].as_slice());
+    add(&rt, alloc, &mut moves, &inst, 0);
+    add(&rt, alloc, &mut moves, &inst, 1);
+    assert!(rt; job_grade(&inst, &moves, Job::Generator(2)) == 5);
+    assert!(rt; !reduce_job(&moves, Job::Generator(2), &mut p, &mut q));
+    assert!(rt; moves.len() == 2);
+    assert!(rt; job_grade(&inst, &moves, Job::Pair(1, 2)) == 6);
+    assert!(rt; reduce_job(&moves, Job::Pair(1, 2), &mut p, &mut q));
+    assert!(rt; p.as_slice() == [2, 0, 0].as_slice() && q.as_slice() == [0, 1, 1].as_slice());
 }

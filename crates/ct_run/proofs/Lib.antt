@@ -5,6 +5,7 @@ pub mod Endings
 pub mod Followed
 pub mod Readings
 pub mod TooLong
+pub mod CutFiles
 pub mod LedgerFiles
 pub mod FullGrades
 pub mod Summaries

@@ -1,5 +1,5 @@
 -- What a run comes to, exactly. Each statement is the contract of a function in the module `laws`.
-use Rattle.std.specs.Prelude.{ℕ, ◌≡◌, ◌≤◌, ◌<◌, ◌⊎◌, ◌↔◌, Bool, List, None, length}
+use Rattle.std.specs.Prelude.{ℕ, ◌≡◌, ◌≤◌, ◌<◌, ◌⊎◌, ◌↔◌, Bool, false, List, ◌++◌, None, IsOk, IsErr, length}
 use Rattle.ct_input.specs.declared.limits.TheConstants.{LEDGER_FILE_LIMIT}
 use Rattle.ct_instance.specs.Instance.{Problem, IsInstance}
 use Rattle.ct_instance.specs.Versions.{IsFullGrade}
@@ -7,6 +7,8 @@ use Rattle.ct_instance.specs.Reach.{full_grade_up_to}
 use Rattle.ct_vectors.specs.declared.limits.TheConstants.{MOVE_LIMIT}
 use Rattle.ct_input.specs.declared.script.Script.{Script}
 use Rattle.ct_input.specs.Script.{IsScript}
+use Rattle.ct_input.specs.Cut.{IsCutBefore}
+use Rattle.ct_json.specs.Values.{is_json}
 use Rattle.ct_report.specs.declared.reports.Report.{Report}
 use Rattle.ct_report.specs.ReportText.{report_text}
 use Rattle.ct_report.specs.Limits.{IsCount, IsReport}
@@ -21,6 +23,7 @@ use Rattle.ct_words.specs.Said.{said_of}
 use Rattle.ct_run.specs.declared.status.Status.{Status}
 use Rattle.ct_run.specs.declared.status.Status.TheVariants.{BadLedger}
 use Rattle.ct_run.specs.Words.{command_of}
+use Rattle.ct_run.specs.Forms.{instance_file, session_file}
 use Rattle.ct_run.specs.Checked.{IsVerdictEnding, IsChecked}
 use Rattle.ct_run.specs.Outcome.{full, IsReportOf, IsServedReportOf}
 use Rattle.ct_run.specs.Plan.{ledger_or_full}
@@ -43,6 +46,17 @@ FullIsFullGrade = (i : Problem) (limit g f : ℕ) → (ledger_or_full i g (full_
 -- words are no command exactly where they are none by the table
 abbrev pub NoCommandByTable : Type 0
 NoCommandByTable = (words : List (List ℕ)) → (command_of words ≡ None) ↔ (said_of commands words ≡ None)
+
+-- ---- files that were cut short
+
+-- The front of an instance text that ends before the last byte of its last token is refused, whichever form it is read in.
+abbrev pub CutInstanceTextHasFault : Type 0
+CutInstanceTextHasFault = (front more : List ℕ) → is_json (front ++ more) ≡ false → IsOk (instance_file (front ++ more)) → IsCutBefore front more → IsErr (instance_file front)
+
+-- and so is that of a session text
+abbrev pub CutSessionTextHasFault : Type 0
+CutSessionTextHasFault =
+    (m : ℕ) (front more : List ℕ) → is_json (front ++ more) ≡ false → IsOk (session_file m (front ++ more)) → IsCutBefore front more → IsErr (session_file m front)
 
 -- ---- serving
 

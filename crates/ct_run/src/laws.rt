@@ -1,6 +1,6 @@
 //! Laws of what a run comes to, as contracts of functions that do nothing.
 
-ghost use Rattle.ct_run.specs.Laws.{LedgerIsWeighed, BadIsNoLedger, FullIsFullGrade, NoCommandByTable, ServedAsAnswered, ServedOneWay, ServedIsRead, AnsweredIsRead};
+ghost use Rattle.ct_run.specs.Laws.{LedgerIsWeighed, BadIsNoLedger, FullIsFullGrade, NoCommandByTable, ServedAsAnswered, ServedOneWay, ServedIsRead, AnsweredIsRead, CutInstanceTextHasFault, CutSessionTextHasFault};
 
 /// Where a file within its limit is the text of a ledger, its check ends by the verdict on that ledger, and where it ends
 /// as a bad ledger the file is over its limit or the text of none.
@@ -31,4 +31,11 @@ pub fn serving_solves_is_answering()
 pub fn legal_reports_are_read()
     ensures served { ServedIsRead }
     ensures answered { AnsweredIsRead }
+{}
+
+/// A text that was cut short before the last byte of its `end` is refused, instance or sessions: what is left of it isn't
+/// read in the other form either.
+pub fn cut_texts_have_fault()
+    ensures instance { CutInstanceTextHasFault }
+    ensures sessions { CutSessionTextHasFault }
 {}

@@ -2,3 +2,5 @@ pub mod OneReport
 pub mod Floors
 pub mod Worked
 pub mod Sessions
+pub mod Scripts
+pub mod Headline

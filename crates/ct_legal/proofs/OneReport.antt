@@ -92,7 +92,7 @@ same_sessions c floor (session ∷ sessions) (l ∷ ls) (m ∷ ms) x y =
 
 -- ---- levels
 
-same_finished : (x y : Finished) → level_seen x ≡ level_seen y → x ≡ y
+pub same_finished : (x y : Finished) → level_seen x ≡ level_seen y → x ≡ y
 same_finished (Upto f) (Upto g) e = cc
 same_finished (Upto f) All e = cc
 same_finished All (Upto g) e = cc

@@ -3,3 +3,4 @@ pub mod Scripts
 pub mod Legal
 pub mod Laws
 pub mod Sessions
+pub mod Headline

@@ -2,6 +2,7 @@
 
 ghost use Rattle.ct_legal.specs.Laws.{OneReport, OneWithoutAsks, SameWithoutAsks, FloorIsGreatest, CoveredIsAnswered};
 ghost use Rattle.ct_legal.specs.Sessions.{ShownIsLegal};
+ghost use Rattle.ct_legal.specs.Headline.{ServedIsTrue, AnsweredIsTrue};
 
 /// Where each ask is taken as a solve, at most one report is legal; so too for a script without asks, and its text is the
 /// same either way.
@@ -21,4 +22,11 @@ pub fn floors_rise()
 /// Whatever words its desk finds, a session shows legal lines from a floor that its first pinned version has reached.
 pub fn sessions_show_legal_lines()
     ensures { ShownIsLegal }
+{}
+
+/// Each line of a legal report is true of its request: an answer is the least solution, or there is none; full is told
+/// exactly where there are too many moves; and an ask is told not yet with a level that never falls in its session.
+pub fn legal_reports_are_true()
+    ensures served { ServedIsTrue }
+    ensures answered { AnsweredIsTrue }
 {}

@@ -2,7 +2,7 @@
 use Rattle.std.proofs.Common.{◌≡◌, ℕ, zero, suc, ℤ, pos, ◌+ℤ◌, ◌*ℤ◌, ◌+◌, ◌-◌, ◌*◌, ◌≤◌, ◌<◌, nat_abs, nat_eq, Bool, true, false, cond, List, [], ◌∷◌, length, map, take, All, Option, Some, None, refl, sym, ap, subst, ◌∙◌, arith}
 use Rattle.std.specs.List.{flat_map}
 use Rattle.std.proofs.lemmas.List.{length-map, length-take-le}
-use Rattle.std.proofs.lemmas.List.Elements.{All-nil, All-cons, All-head, All-tail, All-append, All-map, All-take, All-weaker}
+use Rattle.std.proofs.lemmas.List.Elements.{All-nil, All-cons, All-head, All-tail, All-append, All-take}
 use Rattle.std.proofs.lemmas.Int.{ints, unsigned_abs-mul}
 use Rattle.ct_vectors.specs.declared.limits.TheConstants.{COLUMN_LIMIT, COST_ROW_LIMIT, COST_LIMIT, RIGHT_LIMIT, MOVE_LIMIT, GRADE_LIMIT, JOB_GRADE_LIMIT, SESSION_LIMIT}
 use Rattle.ct_vectors.specs.Vectors.{total}
@@ -44,8 +44,9 @@ use Rattle.ct_report.specs.declared.reports.Report.{Report}
 use Rattle.ct_report.proofs.ReportMachine.{one_report}
 use Rattle.ct_report.specs.Limits.{IsAnswer, IsWalk as HasWalk, IsLine, IsLevel, IsCount, IsPhase, IsReport}
 use Rattle.ct_legal.specs.Cases.{Case, plain_case}
-use Rattle.ct_legal.specs.Scripts.{as_solve, phase_with_solves, with_solves, solved_sum, greatest, grade_after}
+use Rattle.ct_legal.specs.Scripts.{phase_with_solves, with_solves, solved_sum, greatest, grade_after}
 use Rattle.ct_legal.specs.Legal.{IsAsked, AreLegalLines, AreLegalSessions, IsLevelShown, AreLegalPhases, IsLegalServed, IsLegalAnswered}
+use Rattle.ct_legal.proofs.Scripts.{solves_are_script}
 use Rattle.ct_run.specs.Laws.{IsReadAs}
 
 -- ---- costs
@@ -119,26 +120,6 @@ greatest-limit (x ∷ xs) all =
     let rest : greatest xs ≤ GRADE_LIMIT = greatest-limit xs (All-tail (λ y. y ≤ GRADE_LIMIT) x xs all) in
     let first : x ≤ GRADE_LIMIT = All-head (λ y. y ≤ GRADE_LIMIT) x xs all in
     omega arith
-
--- with its asks as solves it is a script too
-solve_is : (m : ℕ) (request : Request) → IsRequest m request → IsRequest m (as_solve request)
-solve_is m (Ask b) is = record { right = is.right; limit = is.limit }
-solve_is m (Solve b) is = is
-
-solves_are : (m : ℕ) (rs : List Request) → All (IsRequest m) rs → All (IsRequest m) (map as_solve rs)
-solves_are m rs are = All-map (IsRequest m) as_solve rs (All-weaker (IsRequest m) (λ r. IsRequest m (as_solve r)) (solve_is m) rs are)
-
-phase_is : (m : ℕ) (phase : Phase) → IsScriptPhase m phase → IsScriptPhase m (phase_with_solves phase)
-phase_is m phase is =
-    let every : List Request → Type 0 = λ rs. All (IsRequest m) rs in
-    record {
-      target = is.target;
-      few = subst (λ (n : ℕ). n ≤ SESSION_LIMIT) (sym (length-map phase.sessions (map as_solve))) is.few;
-      sessions = All-map every (map as_solve) phase.sessions (All-weaker every (λ rs. every (map as_solve rs)) (solves_are m) phase.sessions is.sessions);
-    }
-
-script_is : (m : ℕ) (script : Script) → IsScript m script → IsScript m (with_solves script)
-script_is m script is = All-map (IsScriptPhase m) phase_with_solves script.phases (All-weaker (IsScriptPhase m) (λ p. IsScriptPhase m (phase_with_solves p)) (phase_is m) script.phases is)
 
 -- as many, each of them within the limits
 record AreWithin (sessions : List (List Request)) (told : List (List Line)) : Type 0 where
@@ -314,4 +295,4 @@ module _ (i : Problem) (inst : IsInstance i) (limit : ℕ) (most : limit ≤ MOV
 
   pub answered_is_read : (script : Script) (report : Report) → IsScript i.rows script → IsCount (length script.phases) → IsLegalAnswered case script report → IsReadAs report
   answered_is_read script report is count legal =
-      served_is_read (with_solves script) report (script_is i.rows script is) (subst IsCount (sym (length-map script.phases phase_with_solves)) count) legal
+      served_is_read (with_solves script) report (solves_are_script i.rows script is) (subst IsCount (sym (length-map script.phases phase_with_solves)) count) legal

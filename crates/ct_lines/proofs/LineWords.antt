@@ -6,8 +6,7 @@ use Rattle.std.specs.List.{AllByRecursion}
 use Rattle.ct_text.specs.PiecesLaw.{lacks}
 use Rattle.ct_text.proofs.Splits.{Lack}
 use Rattle.ct_lines.specs.Texts.{IsStep, step_word, walk_words}
-use Rattle.ct_lines.proofs.TextLines.{IsSpelled, AreSpelled, lacks-append}
-use Rattle.ct_lines.proofs.Spelling.{decimal-lacks}
+use Rattle.ct_lines.proofs.TextLines.{IsSpelled, AreSpelled, lacks-append, decimal-lacks}
 
 abbrev pub IsWord : List ℕ → Type 0
 IsWord w = (lacks 32 w ≡ true) × (lacks 10 w ≡ true)

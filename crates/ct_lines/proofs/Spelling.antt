@@ -14,13 +14,12 @@ use Rattle.ct_vectors.specs.declared.limits.TheConstants.{GRADE_LIMIT, MOVE_LIMI
 use Rattle.ct_text.specs.declared.number.NumberFault.{NumberFault}
 use Rattle.ct_text.specs.Numbers.{natural_of, signed_of}
 use Rattle.ct_text.specs.Pieces.{split}
-use Rattle.ct_text.specs.PiecesLaw.{lacks}
 use Rattle.ct_text.proofs.Decimals.{AreDigits, decimal_is_digits, decimal_some, decimal_from_natural, natural_from_decimal, signed_decimal_from_signed, signed_from_signed_decimal}
-use Rattle.ct_text.proofs.Splits.{Lack, join-split, split-join}
-use Rattle.ct_lines.proofs.TextLines.{IsSpelled, lacks-append}
+use Rattle.ct_text.proofs.Splits.{join-split, split-join}
 use Rattle.ct_lines.specs.Texts.{IsStep, step_word, walk_words}
 use Rattle.ct_lines.specs.Reading.{◌>>=◌, is_next, word_left, at_least, number_of, number_left, numbers_left, step_in_parts, step_of, first_step, steps_left, some_steps, walk_left, if_ok, signed_left, until_left, signeds_left, is_last, rest_left}
 use Rattle.ct_lines.specs.Wording.{Wording, done, barred, word, number, numbers, rest, signeds, walk, fork, read, Spells}
+use Rattle.ct_lines.proofs.TextLines.{digit_is, decimal-lacks}
 
 pub some_same : {X : Type 0} {x y : X} → Some x ≡ Some y → x ≡ y
 some_same e = cc
@@ -118,18 +117,6 @@ numbers_of (suc count) high [] left small e h = absurd (omega arith)
 numbers_of (suc count) high (n ∷ ns) left small e h = rw (number_of_decimal 0 high n small (omega arith) h.0, numbers_of count high ns left small (omega arith) h.1) refl
 
 -- ---- a step
-
--- neither a space nor LF stands in a number or between it and its times
-digit_is : (byte d : ℕ) → 57 < byte ⊎ byte < 48 → is_ascii_digit d ≡ true → eqb d byte ≡ false
-digit_is byte d (inl above) h = grind (arith, nat_tests)
-digit_is byte d (inr below) h = grind (arith, nat_tests)
-
-digits_lack : (byte : ℕ) (ds : List ℕ) → 57 < byte ⊎ byte < 48 → AreDigits ds → lacks byte ds ≡ true
-digits_lack byte [] out h = refl
-digits_lack byte (d ∷ ds) out h = let p = and_parts (is_ascii_digit d) (list_all is_ascii_digit ds) h in rw (digit_is byte d out p.0) (digits_lack byte ds out p.1)
-
-pub decimal-lacks : (byte n : ℕ) → byte < 48 → n < 10 ^ 64 → lacks byte (decimal n) ≡ true
-decimal-lacks byte n below fits = digits_lack byte (decimal n) (inr below) (decimal_is_digits n fits)
 
 pub step_of_word : (step : ℕ × ℕ) → IsStep step → step_of (step_word step) ≡ Some step
 unfolding step_of

@@ -1,11 +1,14 @@
 -- Texts of lines, taken apart.
-use Rattle.std.proofs.Common.{◌≡◌, ◌≢◌, ℕ, Bool, true, false, ◌&&◌, not, eqb, List, [], ◌∷◌, ◌++◌, map, refl, sym, ap, ◌∙◌, arith, append_assoc}
-use Rattle.std.specs.List.{AllByRecursion, join_with_byte}
+use Rattle.std.proofs.Common.{◌≡◌, ◌≢◌, ℕ, true, false, eqb, List, [], ◌∷◌, ◌++◌, map, refl, sym, ap, ◌∙◌, arith, append_assoc, ◌<◌, ◌^◌, decimal, ◌⊎◌, inl, inr}
+use Rattle.std.specs.List.{AllByRecursion, join_with_byte, list_all}
 use Rattle.std.proofs.lemmas.Bool.Decides.{nat_tests}
+use Rattle.std.specs.Char.{is_ascii_digit}
+use Rattle.std.proofs.lemmas.Bool.{and_parts}
 use Rattle.ct_text.specs.Pieces.{split}
 use Rattle.ct_text.specs.PiecesLaw.{lacks}
 use Rattle.ct_text.proofs.Splits.{Lack, split-join, lacks-cons}
-use Rattle.ct_lines.specs.Texts.{ended, text_of}
+use Rattle.ct_text.proofs.Decimals.{AreDigits, decimal_is_digits}
+use Rattle.ct_lines.specs.Texts.{text_of}
 
 -- a line of words, none with a space or an LF
 pub record IsSpelled (words : List (List ℕ)) : Type 0 where
@@ -32,6 +35,18 @@ text_of-push lines words rest =
 pub lacks-append : (separator : ℕ) (xs ys : List ℕ) → lacks separator xs ≡ true → lacks separator ys ≡ true → lacks separator (xs ++ ys) ≡ true
 lacks-append separator [] ys h k = k
 lacks-append separator (x ∷ xs) ys h k = let p = lacks-cons separator x xs h in rw p.0 (lacks-append separator xs ys p.1 k)
+
+-- no digit is below 48 or above 57
+pub digit_is : (byte d : ℕ) → 57 < byte ⊎ byte < 48 → is_ascii_digit d ≡ true → eqb d byte ≡ false
+digit_is byte d (inl above) h = grind (arith, nat_tests)
+digit_is byte d (inr below) h = grind (arith, nat_tests)
+
+digits_lack : (byte : ℕ) (ds : List ℕ) → 57 < byte ⊎ byte < 48 → AreDigits ds → lacks byte ds ≡ true
+digits_lack byte [] out h = refl
+digits_lack byte (d ∷ ds) out h = let p = and_parts (is_ascii_digit d) (list_all is_ascii_digit ds) h in rw (digit_is byte d out p.0) (digits_lack byte ds out p.1)
+
+pub decimal-lacks : (byte n : ℕ) → byte < 48 → n < 10 ^ 64 → lacks byte (decimal n) ≡ true
+decimal-lacks byte n below fits = digits_lack byte (decimal n) (inr below) (decimal_is_digits n fits)
 
 pub join-lacks : (words : List (List ℕ)) → Lack 10 words → lacks 10 (join_with_byte 32 words) ≡ true
 join-lacks [] h = refl

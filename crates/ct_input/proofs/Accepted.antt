@@ -13,7 +13,7 @@ use Rattle.ct_order.specs.Costs.{rows_of, IsCostRow}
 use Rattle.ct_order.proofs.CostRows.{IsCostTable-rows_of}
 use Rattle.ct_instance.specs.Instance.{Problem, IsInstance}
 use Rattle.ct_instance.specs.Made.{columns_of, problem_of, zero_column_of}
-use Rattle.ct_instance.proofs.Entries.{length-columns_of, are_columns}
+use Rattle.ct_instance.proofs.Entries.{length-columns_of, columns-limit, are_columns}
 use Rattle.ct_text.specs.Tokens.{text_of}
 use Rattle.ct_input.specs.declared.limits.TheConstants.{INSTANCE_FILE_LIMIT, SESSION_FILE_LIMIT}
 use Rattle.ct_input.specs.declared.draft.Draft.{Draft}
@@ -150,7 +150,7 @@ counts_are_instance d has positive =
       row_limit = has.few_rows;
       some_column = subst (λ k. 1 ≤ k) (sym count) has.some_column;
       column_limit = subst (λ k. k ≤ COLUMN_LIMIT) (sym count) has.few_columns;
-      is_column = are_columns d.rows d.columns d.entries has.entry_limit positive;
+      is_column = are_columns d.rows (columns_of d.rows d.columns d.entries) (columns-limit ENTRY_LIMIT d.rows d.columns d.entries has.entry_limit) positive;
       some_cost_row = table.some_row;
       cost_row_limit = table.row_limit;
       is_cost_row = subst (λ k. All (IsCostRow k) (rows_of (length d.costs / d.columns) d.columns d.costs)) (sym count) table.is_row;

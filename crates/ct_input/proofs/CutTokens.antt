@@ -6,6 +6,7 @@ use Rattle.ct_text.specs.declared.place.Place.{Place}
 use Rattle.ct_text.specs.Place.{past}
 use Rattle.ct_text.specs.Tokens.{Lexeme, is_plain, Mode, between, inside, comment, mode_after, begins, tokens_in, text_of}
 use Rattle.ct_input.specs.Cut.{mode_past, HasTokenByte, IsCutBefore}
+use Rattle.ct_input.proofs.Filling.{true_is_not_false}
 
 -- the text goes on to the whole
 pub record IsFront (text whole : List ℕ) : Type 0 where
@@ -35,9 +36,6 @@ both false b h = absurd cc
 second_not : (a b : Bool) → cond a b false ≡ false → a ≡ true → b ≡ false
 second_not true b h e = h
 second_not false b h e = absurd cc
-
-not_both : (a : Bool) → a ≡ true → a ≡ false → ⊥
-not_both a p q = cc
 
 -- ---- the longest run of plain bytes
 
@@ -92,7 +90,7 @@ out_of false h = cc
 
 -- a byte that begins no token is of the one that runs
 goes_in : (mode : Mode) (byte : ℕ) → begins mode byte ≡ false → mode_after mode byte ≡ inside → (mode ≡ inside) × (is_plain byte ≡ true)
-goes_in between byte skips h = absurd (not_both (is_plain byte) (into (is_plain byte) (eqb byte 35) h) skips)
+goes_in between byte skips h = absurd (true_is_not_false (is_plain byte) (into (is_plain byte) (eqb byte 35) h) skips)
 goes_in inside byte skips h = (refl, into (is_plain byte) (eqb byte 35) h)
 goes_in comment byte skips h = absurd (out_of (eqb byte 10) h)
 
@@ -140,7 +138,7 @@ some_token mode place (byte ∷ more) ends has =
     elim (cases_Bool (begins mode byte)) [
       | inl starts ↦ subst (λ (ts : List Lexeme). IsCut [] ts) (sym (begun mode place byte more starts)) tt
       | inr skips ↦
-          let never : mode_after mode byte ≡ inside → ⊥ = λ e. let g = goes_in mode byte skips e in not_both (is_plain byte) g.1 (ends g.0) in
+          let never : mode_after mode byte ≡ inside → ⊥ = λ e. let g = goes_in mode byte skips e in true_is_not_false (is_plain byte) g.1 (ends g.0) in
           let rest : HasTokenByte (mode_after mode byte) more = elim has [ inl e ↦ absurd (never e) | inr h ↦ h ] in
           subst (λ (ts : List Lexeme). IsCut [] ts) (sym (skipped mode place byte more skips)) (some_token (mode_after mode byte) (past place byte) more (λ e. absurd (never e)) rest)
     ]

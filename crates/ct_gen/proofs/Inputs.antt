@@ -17,7 +17,7 @@ all_of P holds [] = All-nil P
 all_of P holds (x ∷ xs) = All-cons P x xs (holds x) (all_of P holds xs)
 
 -- what holds of each image
-all_made : {A B : Type 0} (P : B → Type 0) (f : A → B) → ((x : A) → P (f x)) → (xs : List A) → All P (map f xs)
+pub all_made : {A B : Type 0} (P : B → Type 0) (f : A → B) → ((x : A) → P (f x)) → (xs : List A) → All P (map f xs)
 all_made P f holds xs = All-map P f xs (all_of (λ x. P (f x)) holds xs)
 
 -- ---- the script

@@ -1,4 +1,5 @@
 pub mod Together
 pub mod Drawn
 pub mod Inputs
+pub mod MadeInputs
 pub mod LegalReports

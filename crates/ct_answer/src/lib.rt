@@ -16,6 +16,3 @@ pub use answering::answer;
 pub use counting::answer_counted;
 pub use extent::Extent;
 pub use options::Options;
-
-#[cfg(test)]
-mod tests;

@@ -1,12 +1,10 @@
 //! The completion of coins of 3 and 5 at cost 2 and 3.
 ghost use Rattle.std.specs.Prelude.{◌≡◌, ◌≤◌, ◌<◌, length};
-ghost use Rattle.ct_vectors.specs.declared.limits.TheConstants.{GRADE_LIMIT, MOVE_LIMIT, PASS_LIMIT};
+ghost use Rattle.ct_vectors.specs.declared.limits.TheConstants.{MOVE_LIMIT, PASS_LIMIT};
 
-use crate::{Act, Book, Committed, Entry, Next, Published, Remainder, Step};
+use crate::{Act, Book, Committed, Entry, Next, Published, Remainder};
 use ct_instance::{Instance, Job};
-use ct_order::CostList;
-use ct_point::Point;
-use ct_version::{AnswerKind, Finished, NotYet, Stop};
+use ct_version::Finished;
 use std::alloc::Global;
 use std::process::Abort;
 use std::sync::Arc;
@@ -97,77 +95,4 @@ fn a_job_is_stored_once(rt: HostRuntime) {
             ]
             .as_slice()
     );
-}
-
-// Completes up to a grade, which another version is the first to cover, and looks at that version.
-fn comes_to(
-    rt: &impl Abort,
-    alloc: Global,
-    book: &mut Book,
-    target: u64,
-    number: u64,
-    level: Finished,
-)
-    requires pass { 0 < book.old.passes }
-    requires target { target ≤ GRADE_LIMIT }
-    ensures passes { book.new.passes ≡ book.old.passes }
-    ensures instance { book.new.instance ≡ book.old.instance }
-{
-    match book.complete(alloc, 0, target) {
-        Ok(helped) => {
-            assert!(rt; helped.level == level && helped.version.number() == number);
-            assert!(rt; helped.version.finished() == level);
-        }
-        Err(_) => panic!(rt; "no room"),
-    }
-}
-
-#[test]
-fn the_levels_of_the_coins(rt: HostRuntime) {
-    let alloc = rt.alloc();
-    let mut book = coins(&rt, alloc, 4096, 1);
-    comes_to(&rt, alloc, &mut book, 2, 0, Finished::Upto(2));
-    comes_to(&rt, alloc, &mut book, 3, 1, Finished::Upto(4));
-    comes_to(&rt, alloc, &mut book, 5, 2, Finished::Upto(5));
-    comes_to(&rt, alloc, &mut book, 6, 3, Finished::Upto(7));
-    comes_to(&rt, alloc, &mut book, 8, 4, Finished::Upto(9));
-    let mut least = Point::zero(alloc, 3).expect(&rt, "room");
-    let paid = AnswerKind::Optimum {
-        costs: CostList::new(&[5]),
-    };
-    assert!(rt; book.version().answer_into(&[8], &mut least) == Ok(paid));
-    assert!(rt; least.as_slice() == [1, 1, 0].as_slice());
-    assert!(rt; book.version().answer_into(&[10], &mut least) == Err(NotYet { finished: 9 }));
-    comes_to(&rt, alloc, &mut book, 10, 5, Finished::Upto(10));
-    comes_to(&rt, alloc, &mut book, 11, 6, Finished::Upto(11));
-    comes_to(&rt, alloc, &mut book, 12, 7, Finished::Upto(14));
-    comes_to(&rt, alloc, &mut book, 15, 8, Finished::Upto(15));
-    comes_to(&rt, alloc, &mut book, 16, 9, Finished::Upto(16));
-    comes_to(&rt, alloc, &mut book, 17, 10, Finished::Upto(17));
-    comes_to(&rt, alloc, &mut book, 20, 11, Finished::Upto(20));
-    comes_to(&rt, alloc, &mut book, 21, 12, Finished::All);
-    assert!(rt; book.version().moves().len() == 5);
-}
-
-#[test]
-fn the_limit_stops_before_a_grade(rt: HostRuntime) {
-    let alloc = rt.alloc();
-    let mut book = coins(&rt, alloc, 2, 1);
-    comes_to(&rt, alloc, &mut book, 5, 2, Finished::Upto(5));
-    match book.complete(alloc, 0, 6) {
-        Err(Stop::Full(mark)) => {
-            assert!(rt; mark.grade == 6 && mark.version.finished() == Finished::Upto(5));
-        }
-        _ => panic!(rt; "no mark"),
-    }
-    match book.step(alloc, 0, 5) {
-        Ok(Step::Reached(helped)) => {
-            assert!(rt; helped.level == Finished::Upto(5) && helped.version.number() == 2);
-        }
-        _ => panic!(rt; "not reached"),
-    }
-    match book.step(alloc, 0, 6) {
-        Ok(Step::Full(mark)) => assert!(rt; mark.grade == 6 && mark.version.number() == 2),
-        _ => panic!(rt; "not full"),
-    }
 }

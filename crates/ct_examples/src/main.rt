@@ -1,96 +1,76 @@
-//! Answers each example in a folder by its real files, and compares what is written with the example's output.txt, and
-//! with walks with its walks.txt. Each is served by two workers too, where an ask may be told that it came too early.
+//! Runs what is kept as data: the examples, and the trials of the commands in files, and names each with its verdict.
 //!
-//! The one argument is the folder of examples. The gate gives it this crate's data/, to which `examples/` links. The
-//! two files of an example are texts, `.txt`, or JSON, `.json`.
+//! The one argument is the folder, which the gate gives as this crate's data/. `examples/` in it has a folder an example, to
+//! which `examples` at the top links. `trials/` has files of trials in JSON: an object whose `texts` are a list of names and
+//! texts, and whose `trials` are a list of runs. `texts.rt` says how a text is said, `trial.rt` and `running.rt` how a trial is.
 #![tactic(auto)]
 
+mod examples;
+mod gatekeeper;
+mod no_room;
+mod running;
+mod texts;
+mod trial;
+
+use crate::texts::{Texts, list, string};
 use anyhow::{Context, Result};
-use ct_outside::{FileShelf, MemSink};
-use ct_run::{Status, run};
-use ct_version::NoGate;
-use std::alloc::Global;
+use serde_json::Value;
 use std::rt::Files;
 use std::sync::Wait;
 use std::thread::Threads;
-use std::{env, fs, str};
+use std::{env, fs};
 
-// What `ct` writes for the example in this folder by a command and its options, where it ends with Done.
-fn written<R: Files + AllocGlobal + Threads + Wait + Sync>(
-    rt: &R,
-    folder: &str,
-    command: &[&str],
-) -> Result<Option<MemSink>> {
-    let alloc = rt.alloc();
-    let form = if fs::exists(rt, format!(in alloc; "{folder}/instance.json")?)? {
-        "json"
-    } else {
-        "txt"
-    };
-    let mut words = Vec::new(alloc);
-    for word in command {
-        words.push(String::from_str(alloc, word)?)?;
+// The names in a folder, in their order.
+fn names_in<R: Files + AllocGlobal + Clone>(rt: &R, folder: &str) -> Result<Vec<String>> {
+    let mut names = Vec::new(rt.alloc());
+    for entry in fs::read_dir(rt, folder)? {
+        names.push(String::from_str(rt.alloc(), entry?.file_name())?)?;
     }
-    words.push(format!(in alloc; "{folder}/instance.{form}")?)?;
-    words.push(format!(in alloc; "{folder}/sessions.{form}")?)?;
-    let mut shelf = FileShelf::new(rt, alloc);
-    let mut out = MemSink::new(alloc, 4096, 1_048_576)?;
-    let status = run(rt, alloc, &words, &mut shelf, &mut out, &NoGate);
-    Ok(if status == Status::Done {
-        Some(out)
-    } else {
-        None
-    })
+    names.sort()?;
+    Ok(names)
 }
 
-// Whether each line is the one that is stored, or says that an ask came too early.
-fn is_served_as(served: &str, stored: &str) -> bool {
-    served.lines().count() == stored.lines().count()
-        && served
-            .lines()
-            .zip(stored.lines())
-            .all(|(told, line)| told == line || told.starts_with("notyet "))
-}
-
-// Whether the example in this folder is answered, and served by two workers, as its files say.
-fn is_as_stored<R: Files + AllocGlobal + Threads + Wait + Sync>(
+// Runs the trials of a file, and prints their verdicts.
+fn run_trials<R: Files + Print + AllocGlobal + Threads + Wait + Sync>(
     rt: &R,
     folder: &str,
-) -> Result<bool> {
+    name: &str,
+) -> Result<()> {
     let alloc = rt.alloc();
-    let output = fs::read_to_string(rt, format!(in alloc; "{folder}/output.txt")?)?;
-    let walks = fs::read_to_string(rt, format!(in alloc; "{folder}/walks.txt")?)?;
-    for (command, stored) in [
-        (&["answer"][..], &output),
-        (&["answer", "--walks"][..], &walks),
-    ] {
-        match written(rt, folder, command)? {
-            Some(out) if out.held() == stored.as_bytes() => {}
-            _ => return Ok(false),
-        }
+    let text = fs::read_to_string(rt, format!(in alloc; "{folder}/{name}")?)?;
+    let file = Value::from_str(alloc, text.as_str()).context(format_args!("{name}"))?;
+    let texts = Texts::of(rt, folder, list(&file, "texts").unwrap_or(&[]))?;
+    for trial in list(&file, "trials").context("no trials")? {
+        let called = string(trial, "name").unwrap_or("?");
+        let said = if running::is_as_stored(rt, &texts, trial).context(format_args!("{called}"))? {
+            "as stored"
+        } else {
+            "otherwise"
+        };
+        println!(rt; "{name}: {called}: {said}")?;
     }
-    match written(rt, folder, &["serve", "--workers", "2"])? {
-        Some(out) => Ok(is_served_as(str::from_utf8(out.held())?, output.as_str())),
-        None => Ok(false),
-    }
+    Ok(())
 }
 
 fn main(rt: HostRuntime) -> Result<()> {
     let alloc = rt.alloc();
-    let folder = env::args(&rt)?.nth(1).context("no folder of examples")?;
-    let mut names = Vec::new(alloc);
-    for entry in fs::read_dir(&rt, folder.as_str())? {
-        names.push(String::from_str(alloc, entry?.file_name())?)?;
-    }
-    names.sort()?;
-    for name in &names {
-        let example = format!(in alloc; "{folder}/{name}")?;
-        let said = if is_as_stored(&rt, example.as_str())? {
+    let folder = env::args(&rt)?.nth(1).context("no folder")?;
+    for name in &names_in(&rt, format!(in alloc; "{folder}/examples")?.as_str())? {
+        let said = if examples::is_as_stored(
+            &rt,
+            format!(in alloc; "{folder}/examples/{name}")?.as_str(),
+        )? {
             "answered as stored"
         } else {
             "answered otherwise"
         };
         println!(rt; "{name}: {said}")?;
+    }
+    let trials = format!(in alloc; "{folder}/trials")?;
+    for name in &names_in(&rt, trials.as_str())? {
+        if name.as_str().ends_with(".json") {
+            run_trials(&rt, trials.as_str(), name.as_str())?;
+        }
     }
     Ok(())
 }

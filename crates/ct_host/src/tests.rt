@@ -4,8 +4,6 @@ ghost use Rattle.ct_vectors.specs.declared.limits.TheConstants.{GRADE_LIMIT, MOV
 ghost use Rattle.ct_instance.specs.Made.{indices};
 ghost use Rattle.ct_host.specs.Hosts.{IsOfHost, fresh_pass};
 
-mod refused;
-
 use crate::{Host, HostPass, OwnDesk};
 use ct_book::{Batch, Bench, Committed, Remainder, Step};
 use ct_instance::Instance;
@@ -225,43 +223,6 @@ fn desks_are_used_through_their_bound(rt: HostRuntime) {
     assert!(rt; looks_at(&rt, alloc, &host, &mut first));
     let second = own.into_pass();
     assert_eq!(rt; entries_of_two(&rt, alloc, host, first, second), (0, 8, 8));
-}
-
-// Takes a step, and reduces and commits what it hands out, through a bench.
-fn resolves<B: Bench, R: Wait>(rt: &R, alloc: Global, bench: &mut B) -> Option<Committed>
-    ensures home { B.home bench.new ≡ B.home bench.old }
-    ensures loan { B.loan bench.new ≡ B.loan bench.old }
-{
-    match bench.step(rt, alloc, 15) {
-        Ok(Step::Reduce(task)) => match task.reduce(alloc) {
-            Ok(remainder) => Some(bench.commit(rt, remainder)),
-            Err(_) => None,
-        },
-        _ => None,
-    }
-}
-
-fn resolves_at<R: Wait>(
-    rt: &R,
-    alloc: Global,
-    host: &Host,
-    pass: &mut HostPass,
-) -> Option<Committed>
-    requires { IsOfHost host.now pass.old }
-    ensures { (pass.new.key ≡ pass.old.key) × (pass.new.number ≡ pass.old.number) }
-{
-    let mut bench = host.bench(pass);
-    resolves(rt, alloc, &mut bench)
-}
-
-#[test]
-fn benches_are_used_through_their_bound(rt: HostRuntime) {
-    let alloc = rt.alloc();
-    let (host, mut first, second) = two(&rt, alloc, 4096);
-    let stored = resolves_at(&rt, alloc, &host, &mut first);
-    assert_eq!(rt; stored, Some(Committed::Stored { place: 0 }));
-    assert_eq!(rt; resolves_at(&rt, alloc, &host, &mut first), None);
-    assert_eq!(rt; entries_of_two(&rt, alloc, host, first, second), (2, 0, 2));
 }
 
 // A host of eight columns of one row, each of them a generator of grade 1, and its one pass.

@@ -12,19 +12,13 @@ mod certifying;
 mod checking;
 mod ending;
 pub mod laws;
-#[cfg(test)]
-mod ledger_tests;
 mod making;
 mod plain;
 mod reading;
-#[cfg(test)]
-mod serve_tests;
 mod serving;
 mod sharing;
 mod status;
 mod stop;
-#[cfg(test)]
-mod tests;
 mod words;
 mod writing;
 

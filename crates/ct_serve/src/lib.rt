@@ -15,10 +15,3 @@ mod running;
 mod serving;
 
 pub use serving::serve_report;
-
-#[cfg(test)]
-mod gate_tests;
-#[cfg(test)]
-mod long_tests;
-#[cfg(test)]
-mod tests;

@@ -4,8 +4,6 @@ ghost use Rattle.ct_vectors.specs.declared.limits.TheConstants.{GRADE_LIMIT, MOV
 ghost use Rattle.ct_instance.specs.Made.{indices};
 ghost use Rattle.ct_host.specs.Hosts.{IsOfHost, fresh_pass};
 
-mod four;
-
 use crate::work;
 use ct_book::{Bench, Step};
 use ct_host::{Host, HostPass};

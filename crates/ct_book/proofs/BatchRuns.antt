@@ -1,11 +1,10 @@
 -- Jobs that are handed out, reduced and taken in together.
-use Rattle.std.proofs.Common.{◌≡◌, ℕ, ◌+◌, ◌≤◌, ◌<◌, false, List, [], ◌∷◌, ◌++◌, map, reverse, length, All, sym, ap, ap₂, subst, ◌∙◌, refl, arith, append_assoc, append-nil}
+use Rattle.std.proofs.Common.{◌≡◌, ℕ, ◌+◌, ◌<◌, false, List, [], ◌∷◌, ◌++◌, map, reverse, length, All, sym, ap, ap₂, subst, ◌∙◌, refl, arith, append_assoc, append-nil}
 use Rattle.std.proofs.lemmas.List.{map-append, reverse-append, length_push, get_or_push, get_or_append_left}
 use Rattle.std.proofs.lemmas.List.Elements.{All-push}
 use Rattle.ct_instance.specs.declared.jobs.Job.{Job}
 use Rattle.ct_instance.specs.Versions.{Covers, level_of}
 use Rattle.ct_completion.specs.Machine.{CompletionState, hands_out}
-use Rattle.ct_completion.specs.Journal.{entries_of}
 use Rattle.ct_version.specs.Editions.{Edition}
 use Rattle.ct_book.specs.declared.outcomes.Committed.{Committed}
 use Rattle.ct_book.specs.declared.outcomes.Committed.TheVariants.{Stored, Already}

@@ -1,4 +1,4 @@
-use Rattle.std.proofs.Common.{List, ◌++◌, sym, subst, arith}
+use Rattle.std.proofs.Common.{List, sym, subst, arith}
 use Rattle.ct_book.specs.declared.tasks.PlacedJob.{PlacedJob}
 use Rattle.ct_book.proofs.BatchRuns.{HasHandedOut, handing_starts, handing_more, handed_waits, still_beyond}
 use Rattle.ct_book.proofs.batches.hand_out_beside.Goals as goal

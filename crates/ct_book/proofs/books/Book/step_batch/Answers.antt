@@ -1,4 +1,4 @@
-use Rattle.std.proofs.Common.{◌≡◌, ◌∷◌, map, refl, ap, ◌∙◌, arith}
+use Rattle.std.proofs.Common.{◌≡◌, ◌∷◌, map, refl, ap, arith}
 use Rattle.ct_completion.specs.Journal.{entries_of}
 use Rattle.ct_book.specs.Tasks.{placed}
 use Rattle.ct_book.specs.Books.{IsHandedOut}

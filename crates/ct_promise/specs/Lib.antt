@@ -1,0 +1,3 @@
+pub mod Inputs
+pub mod Promise
+pub mod Beside

@@ -162,34 +162,49 @@ fn a_walk_of_three_steps_by_two_moves_and_three_more(rt: HostRuntime) {
     assert!(rt; end.as_slice() == [3, 6, 0].as_slice());
 }
 
-// Two points and where their walks end, if not at one point: by all five moves, and by the first two.
-type Pair = ([u64; 3], [u64; 3], Option<([u64; 3], [u64; 3])>);
-
-const BY_FIVE: [Pair; 3] = [
-    ([0, 0, 15], [5, 0, 0], None),
-    ([1, 0, 3], [1, 0, 3], None),
-    ([0, 0, 1_000_000_000_000], [1, 1, 999_999_999_992], None),
+// Two points whose walks by all five moves end at one point.
+const MEETING: [([u64; 3], [u64; 3]); 3] = [
+    ([0, 0, 15], [5, 0, 0]),
+    ([1, 0, 3], [1, 0, 3]),
+    ([0, 0, 1_000_000_000_000], [1, 1, 999_999_999_992]),
 ];
 
-const BY_TWO: [Pair; 4] = [
-    ([1, 0, 3], [0, 0, 6], None),
-    ([0, 0, 5], [1, 0, 2], None),
-    ([0, 1, 1], [0, 0, 6], Some(([0, 1, 1], [2, 0, 0]))),
-    ([0, 0, 9], [0, 1, 4], Some(([3, 0, 0], [1, 1, 1]))),
-];
+// Two points whose walks by the first two moves end at one point.
+const MEETING_BY_TWO: [([u64; 3], [u64; 3]); 2] = [([1, 0, 3], [0, 0, 6]), ([0, 0, 5], [1, 0, 2])];
 
-fn expect_ends(rt: &impl Abort, alloc: Global, inst: &Arc<Instance>, moves: &Moves, pair: Pair)
-    requires { moves.now.instance ≡ arc_value inst.now }
+// Two points whose walks by the first two moves part, and in the row with the same index where they end.
+const PARTING: [([u64; 3], [u64; 3]); 2] = [([0, 1, 1], [0, 0, 6]), ([0, 0, 9], [0, 1, 4])];
+
+const PARTED: [([u64; 3], [u64; 3]); 2] = [([0, 1, 1], [2, 0, 0]), ([3, 0, 0], [1, 1, 1])];
+
+fn expect_one_end(
+    rt: &impl Abort,
+    alloc: Global,
+    moves: &Moves,
+    first: [u64; 3],
+    second: [u64; 3],
+) {
+    let inst = moves.instance();
+    let mut first = point(rt, alloc, inst, first);
+    let mut second = point(rt, alloc, inst, second);
+    assert!(rt; inst.grade_wide(&first) <= GRADE_LIMIT as u128);
+    assert!(rt; inst.grade_wide(&second) <= GRADE_LIMIT as u128);
+    assert!(rt; have_one_end(moves, &mut first, &mut second));
+}
+
+fn expect_two_ends(rt: &impl Abort, alloc: Global, moves: &Moves, k: usize)
+    requires { k < 2 }
 {
-    let (first, second, ends) = pair;
-    let mut p = point(rt, alloc, inst, first);
-    let mut q = point(rt, alloc, inst, second);
-    assert!(rt; inst.grade_wide(&p) <= GRADE_LIMIT as u128);
-    assert!(rt; inst.grade_wide(&q) <= GRADE_LIMIT as u128);
-    assert!(rt; have_one_end(moves, &mut p, &mut q) == ends.is_none());
-    if let Some((first, second)) = ends {
-        assert!(rt; p.as_slice() == first.as_slice() && q.as_slice() == second.as_slice());
-    }
+    let inst = moves.instance();
+    let (first, second) = PARTING[k];
+    let mut first = point(rt, alloc, inst, first);
+    let mut second = point(rt, alloc, inst, second);
+    assert!(rt; inst.grade_wide(&first) <= GRADE_LIMIT as u128);
+    assert!(rt; inst.grade_wide(&second) <= GRADE_LIMIT as u128);
+    assert!(rt; !have_one_end(moves, &mut first, &mut second));
+    let (first_end, second_end) = PARTED[k];
+    assert!(rt; first.as_slice() == &first_end[..]);
+    assert!(rt; second.as_slice() == &second_end[..]);
 }
 
 #[test]
@@ -199,11 +214,14 @@ fn walks_that_come_to_one_point_have_one_end(rt: HostRuntime) {
     let mut two = Moves::new(alloc, Arc::try_clone(&inst).expect(&rt, "another owner"));
     add(&rt, alloc, &mut two, &inst, 0);
     add(&rt, alloc, &mut two, &inst, 1);
-    for pair in BY_TWO {
-        expect_ends(&rt, alloc, &inst, &two, pair);
+    for (first, second) in MEETING_BY_TWO {
+        expect_one_end(&rt, alloc, &two, first, second);
+    }
+    for k in 0..2 {
+        expect_two_ends(&rt, alloc, &two, k);
     }
     let five = five_moves(&rt, alloc, &inst);
-    for pair in BY_FIVE {
-        expect_ends(&rt, alloc, &inst, &five, pair);
+    for (first, second) in MEETING {
+        expect_one_end(&rt, alloc, &five, first, second);
     }
 }

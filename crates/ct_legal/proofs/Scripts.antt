@@ -2,7 +2,7 @@
 use Rattle.std.proofs.Common.{ℕ, ◌≤◌, List, map, length, All, sym, subst}
 use Rattle.std.proofs.lemmas.List.{length-map}
 use Rattle.std.proofs.lemmas.List.Elements.{All-map, All-weaker}
-use Rattle.ct_input.specs.declared.limits.TheConstants.{SESSION_LIMIT}
+use Rattle.ct_vectors.specs.declared.limits.TheConstants.{SESSION_LIMIT}
 use Rattle.ct_input.specs.declared.script.Request.{Request}
 use Rattle.ct_input.specs.declared.script.Request.TheVariants.{Ask, Solve}
 use Rattle.ct_input.specs.declared.script.Phase.{Phase}

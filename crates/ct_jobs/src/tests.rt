@@ -142,6 +142,8 @@ fn expect_job(
     let mut q = point(rt, alloc, inst, [7, 8, 9]);
     ends_into(inst, moves, job, &mut p, &mut q);
     assert!(rt; p.as_slice() == first.as_slice() && q.as_slice() == second.as_slice());
+    let mut p = point(rt, alloc, moves.instance(), [7, 8, 9]);
+    let mut q = point(rt, alloc, moves.instance(), [7, 8, 9]);
     assert!(rt; grade <= GRADE_LIMIT && !reduce_job(moves, job, &mut p, &mut q));
 }
 

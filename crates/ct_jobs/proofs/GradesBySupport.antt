@@ -3,7 +3,7 @@ use Rattle.std.proofs.Common.{ℕ, ◌+◌, ◌-◌, ◌*◌, ◌≤◌, ◌<◌
 use Rattle.std.specs.List.{AllByRecursion}
 use Rattle.std.proofs.Math.Seq.{drop-append_seam}
 use Rattle.std.proofs.lemmas.Bool.{cases_lt, lt-ltb, le-ltb}
-use Rattle.std.proofs.lemmas.List.{length-map, map-append, get_or-map, get_or_append_left, get_or-append-add, take_all, take-append-le, drop-append-le}
+use Rattle.std.proofs.lemmas.List.{length-map, map-append, get_or-map, take_all, take-append-le, drop-append-le}
 use Rattle.std.proofs.lemmas.List.Elements.{All-map, All-filter, filter-append, recursion_from_All}
 use Rattle.std.proofs.lemmas.List.Sums.{sum_by-append}
 use Rattle.ct_vectors.specs.declared.limits.TheConstants.{JOB_GRADE_LIMIT}

@@ -5,8 +5,10 @@ use ct_instance::Instance;
 use ct_point::Point;
 use std::cmp::Ordering;
 
-// The artificial total and the cost by the first row, or a difference of two such. They are kept modulo 2^64: where a
-// difference is greater than half of that, its sign is wrong. So no clause speaks of them, and only speed rests on them.
+/// The artificial total and the cost by the first row, or a difference of two such.
+///
+/// They are kept modulo 2^64: where a difference is greater than half of that, its sign is wrong. So no clause speaks of
+/// them, and only speed rests on them.
 #[derive(Clone, Copy, Debug)]
 pub struct Height {
     artificials: u64,
@@ -14,7 +16,7 @@ pub struct Height {
 }
 
 impl Height {
-    // Of a point. It is linear in the width.
+    /// Of a point. It is linear in the width.
     pub fn of(inst: &Instance, p: &Point) -> Height
         requires { IsPoint inst.now p.now }
     {
@@ -34,7 +36,7 @@ impl Height {
         }
     }
 
-    // This much less another.
+    /// This much less another.
     pub fn less(self, other: Height) -> Height {
         Height {
             artificials: self.artificials.wrapping_sub(other.artificials),

@@ -19,6 +19,7 @@ mod walking;
 mod walks;
 
 pub use faults::MoveFault;
+pub use heights::Height;
 pub use meeting::have_one_end;
 pub use move_list::Moves;
 pub use moves::Move;

@@ -17,8 +17,9 @@ use std::cmp::Ordering;
 /// is moved to the end of its walk.
 ///
 /// The higher point in the refined order takes the next step, so two walks that share a point are left at the first one
-/// that they share, and what would follow is walked by neither. It takes no memory.
-pub fn have_one_end(moves: &Moves, first: &mut Point, second: &mut Point) -> bool
+/// that they share, and what would follow is walked by neither. `above` is by how much the first point is higher; where
+/// it isn't, the answer is the same after more steps. It takes no memory.
+pub fn have_one_end(moves: &Moves, first: &mut Point, second: &mut Point, above: Height) -> bool
     requires first_point { IsPoint moves.now.instance first.old }
     requires second_point { IsPoint moves.now.instance second.old }
     requires first_grade { grade_of moves.now.instance.columns first.old ≤ GRADE_LIMIT }
@@ -28,8 +29,9 @@ pub fn have_one_end(moves: &Moves, first: &mut Point, second: &mut Point) -> boo
     ensures first_stays_point { IsPoint moves.now.instance first.new }
     ensures second_stays_point { IsPoint moves.now.instance second.new }
 {
-    let inst = moves.instance();
-    let mut above = Height::of(inst, first).less(Height::of(inst, second));
+    // Called for what it ensures: these are moves of an instance within the limits.
+    let _inst = moves.instance();
+    let mut above = above;
     while higher_steps(moves, first, second, &mut above) {}
     if are_equal(first.as_slice(), second.as_slice()) {
         return true;

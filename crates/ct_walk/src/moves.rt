@@ -69,8 +69,8 @@ impl Move {
         &self.tail
     }
 
-    // By how much the tail is above the head: the order has it below, so artificials or costs mostly fall.
-    pub(crate) fn rise(&self) -> Height {
+    /// By how much the tail is above the head: the order has it below, so artificials or costs mostly fall.
+    pub fn rise(&self) -> Height {
         self.rise
     }
 

@@ -5,7 +5,7 @@ ghost use Rattle.ct_instance.specs.Instance.{IsPoint};
 ghost use Rattle.std.specs.Arc.{arc_value};
 ghost use Rattle.ct_walk.specs.Moves.{IsSmallMove};
 
-use crate::{Move, MoveFault, Moves, follow, have_one_end, walk, walk_end};
+use crate::{Height, Move, MoveFault, Moves, follow, have_one_end, walk, walk_end};
 use ct_instance::Instance;
 use ct_point::Point;
 use ct_vectors::limits::GRADE_LIMIT;
@@ -189,7 +189,8 @@ fn expect_one_end(
     let mut second = point(rt, alloc, inst, second);
     assert!(rt; inst.grade_wide(&first) <= GRADE_LIMIT as u128);
     assert!(rt; inst.grade_wide(&second) <= GRADE_LIMIT as u128);
-    assert!(rt; have_one_end(moves, &mut first, &mut second));
+    let above = Height::of(inst, &first).less(Height::of(inst, &second));
+    assert!(rt; have_one_end(moves, &mut first, &mut second, above));
 }
 
 fn expect_two_ends(rt: &impl Abort, alloc: Global, moves: &Moves, k: usize)
@@ -201,7 +202,8 @@ fn expect_two_ends(rt: &impl Abort, alloc: Global, moves: &Moves, k: usize)
     let mut second = point(rt, alloc, inst, second);
     assert!(rt; inst.grade_wide(&first) <= GRADE_LIMIT as u128);
     assert!(rt; inst.grade_wide(&second) <= GRADE_LIMIT as u128);
-    assert!(rt; !have_one_end(moves, &mut first, &mut second));
+    let above = Height::of(inst, &second).less(Height::of(inst, &first));
+    assert!(rt; !have_one_end(moves, &mut first, &mut second, above));
     let (first_end, second_end) = PARTED[k];
     assert!(rt; first.as_slice() == &first_end[..]);
     assert!(rt; second.as_slice() == &second_end[..]);

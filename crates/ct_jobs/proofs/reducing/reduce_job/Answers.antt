@@ -3,6 +3,14 @@ use Rattle.ct_instance.specs.Versions.{coprime}
 use Rattle.ct_jobs.proofs.JobEnds.{first_starts, second_starts, left_by_ends}
 use Rattle.ct_jobs.proofs.reducing.reduce_job.Goals as goal
 
+pub first_above-start-requires-clause-first_point : goal.first_above-start-requires-clause-first_point
+first_above-start-requires-clause-first_point c =
+    (first_starts c.args.moves.now c.instance.ensures.checked c.args.job c.requires.job c.requires.grade c.ends_into.new.first (search rules)).point
+
+pub first_above-start-requires-clause-second_point : goal.first_above-start-requires-clause-second_point
+first_above-start-requires-clause-second_point c =
+    (second_starts c.args.moves.now c.instance.ensures.checked c.args.job c.requires.job c.requires.grade c.ends_into.new.second (search rules)).point
+
 pub have_one_end-requires-clause-first_point : goal.have_one_end-requires-clause-first_point
 have_one_end-requires-clause-first_point c =
     (first_starts c.args.moves.now c.instance.ensures.checked c.args.job c.requires.job c.requires.grade c.ends_into.new.first (search rules)).point

@@ -1,5 +1,5 @@
 -- The passes of a host that is opened.
-use Rattle.std.proofs.Common.{ℕ, ◌+◌, ◌≡◌, zero, suc, List, [], ◌∷◌, ◌++◌, length, map, All, Some, refl, sym, subst, ◌∙◌, ap, arith}
+use Rattle.std.proofs.Common.{ℕ, ◌+◌, ◌≡◌, List, [], ◌∷◌, ◌++◌, length, map, All, Some, refl, sym, subst, ◌∙◌, ap}
 use Rattle.std.proofs.lemmas.List.{length-append, length-map}
 use Rattle.std.proofs.lemmas.List.Elements.{All-map, All-pop}
 use Rattle.ct_instance.specs.Made.{indices}

@@ -13,5 +13,6 @@ mod phases;
 mod reaching;
 mod running;
 mod serving;
+mod shared;
 
 pub use serving::serve_report;

@@ -12,42 +12,37 @@ use crate::collecting::collect;
 use crate::dealing::deal;
 use crate::parts::{Done, Part};
 use crate::running::run_part;
-use ct_host::{Host, HostPass};
+use crate::shared::Shared;
+use ct_host::HostPass;
 use ct_input::Phase;
-use ct_instance::Instance;
 use ct_point::Seq;
 use ct_session::Line;
 use ct_version::{Gate, Version};
-use std::alloc::{AllocError, Global};
+use std::alloc::AllocError;
 use std::sync::{Arc, Wait};
 use std::thread;
 use std::thread::Threads;
 
 // Runs all parts beside each other, or one after another where no thread can be made.
 fn run_parts<'a, R: Threads + Wait + Sync, G: Gate + Sync>(
-    rt: &R,
-    alloc: Global,
-    host: &Host,
-    inst: &Arc<Instance>,
+    shared: &Shared<'_, R, G>,
     first: &Arc<Version>,
-    gate: &G,
-    walks: bool,
     parts: Vec<Part<'a>>,
 ) -> Result<Vec<Done<'a>>, AllocError>
-    requires instance { arc_value inst.now ≡ host.now.place.instance }
-    requires first { IsOfPlace (desk_place host.now.place) (arc_value first.now) }
-    requires parts { All (IsPart host.now) parts.items }
+    requires instance { arc_value shared.now.inst.now ≡ shared.now.host.now.place.instance }
+    requires first { IsOfPlace (desk_place shared.now.host.now.place) (arc_value first.now) }
+    requires parts { All (IsPart shared.now.host.now) parts.items }
     ensures count { IfOk result (λ dones. vec_len dones ≡ vec_len parts.entry) }
     ensures scripts { IfOk result (λ dones. scripts_done dones.items ≡ scripts_dealt parts.entry.items) }
-    ensures done { IfOk result (λ dones. All (IsDone host.now walks (arc_value first.now).number) dones.items) }
+    ensures done { IfOk result (λ dones. All (IsDone shared.now.host.now shared.now.options.walks (arc_value first.now).number) dones.items) }
 {
     let dones = thread::map_vec(
-        rt,
+        shared.rt,
         parts,
         &|part: Part| -> Done
-            requires { (arc_value inst.now ≡ host.now.place.instance) × IsOfPlace (desk_place host.now.place) (arc_value first.now) × IsPart host.now part }
-            ensures { (result.job ≡ part.entry.job) × IsDone host.entry.now walks (arc_value first.entry.now).number result }
-        { run_part(rt, alloc, host, inst, first, gate, walks, part) },
+            requires { (arc_value shared.now.inst.now ≡ shared.now.host.now.place.instance) × IsOfPlace (desk_place shared.now.host.now.place) (arc_value first.now) × IsPart shared.now.host.now part }
+            ensures { (result.job ≡ part.entry.job) × IsDone shared.entry.now.host.now shared.entry.now.options.walks (arc_value first.entry.now).number result }
+        { run_part(shared, first, part) },
     )?;
     Ok(dones)
 }
@@ -55,28 +50,23 @@ fn run_parts<'a, R: Threads + Wait + Sync, G: Gate + Sync>(
 /// Runs the workers and the sessions of a phase, which begin with the first version, and gives the passes back with the
 /// lines of the sessions in order.
 pub fn run_phase<R: Threads + Wait + Sync, G: Gate + Sync>(
-    rt: &R,
-    alloc: Global,
-    host: &Host,
+    shared: &Shared<'_, R, G>,
     passes: Vec<HostPass>,
-    inst: &Arc<Instance>,
     first: &Arc<Version>,
     phase: &Phase,
     workers: u32,
-    walks: bool,
-    gate: &G,
 ) -> Result<(Vec<HostPass>, Seq<Seq<Line>>), AllocError>
-    requires own { All (IsOfHost host.now) passes.items }
+    requires own { All (IsOfHost shared.now.host.now) passes.items }
     requires enough { workers + length phase.now.sessions ≤ vec_len passes }
-    requires instance { arc_value inst.now ≡ host.now.place.instance }
-    requires first { IsOfPlace (desk_place host.now.place) (arc_value first.now) }
-    requires phase { IsPhase host.now.place.instance.rows phase.now }
-    ensures own { IfOk result (λ r. All (IsOfHost host.now) r.0.items) }
+    requires instance { arc_value shared.now.inst.now ≡ shared.now.host.now.place.instance }
+    requires first { IsOfPlace (desk_place shared.now.host.now.place) (arc_value first.now) }
+    requires phase { IsPhase shared.now.host.now.place.instance.rows phase.now }
+    ensures own { IfOk result (λ r. All (IsOfHost shared.now.host.now) r.0.items) }
     ensures count { IfOk result (λ r. vec_len r.0 ≡ vec_len passes) }
-    ensures told { IfOk result (λ r. AreEach (IsTold (desk_place host.now.place) walks (arc_value first.now).number) phase.now.sessions r.1) }
+    ensures told { IfOk result (λ r. AreEach (IsTold (desk_place shared.now.host.now.place) shared.now.options.walks (arc_value first.now).number) phase.now.sessions r.1) }
 {
-    let parts = deal(alloc, passes, workers, phase)?;
-    let dones = run_parts(rt, alloc, host, inst, first, gate, walks, parts)?;
-    let (passes, told) = collect(alloc, dones)?;
+    let parts = deal(shared.alloc, passes, workers, phase)?;
+    let dones = run_parts(shared, first, parts)?;
+    let (passes, told) = collect(shared.alloc, dones)?;
     Ok((passes, told))
 }

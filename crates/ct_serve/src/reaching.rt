@@ -5,9 +5,10 @@ ghost use Rattle.ct_book.specs.Benches.{desk_place};
 ghost use Rattle.ct_host.specs.Hosts.{IsOfHost};
 ghost use Rattle.ct_serve.specs.Served.{IsHeld};
 
-use ct_host::{Host, HostPass};
+use crate::shared::Shared;
+use ct_host::HostPass;
 use ct_version::{Finished, Stop, Version};
-use std::alloc::{AllocError, Global};
+use std::alloc::AllocError;
 use std::sync::{Arc, Wait};
 
 /// What the main part holds once a grade is worked for.
@@ -20,19 +21,17 @@ pub struct Held {
 }
 
 /// Helps up to a grade, or up to the mark before it.
-pub fn reach<R: Wait>(
-    rt: &R,
-    alloc: Global,
-    host: &Host,
+pub fn reach<R: Wait, G>(
+    shared: &Shared<'_, R, G>,
     pass: &mut HostPass,
     grade: u64,
 ) -> Result<Held, AllocError>
-    requires own { IsOfHost host.now pass.old }
+    requires own { IsOfHost shared.now.host.now pass.old }
     requires grade { grade ≤ GRADE_LIMIT }
-    ensures own { IsOfHost host.now pass.new }
-    ensures held { IfOk result (IsHeld (desk_place host.now.place) grade) }
+    ensures own { IsOfHost shared.now.host.now pass.new }
+    ensures held { IfOk result (IsHeld (desk_place shared.now.host.now.place) grade) }
 {
-    match host.help(rt, alloc, pass, grade) {
+    match shared.host.help(shared.rt, shared.alloc, pass, grade) {
         Ok(helped) => Ok(Held {
             version: helped.version,
             level: helped.level,

@@ -9,32 +9,37 @@ ghost use Rattle.ct_host.specs.Hosts.{IsOfHost};
 ghost use Rattle.ct_serve.specs.Served.{IsPart, HasWorked, HasTold, IsKept, IsDone};
 
 use crate::parts::{Done, End, Job, Kept, Part};
-use ct_host::{Host, HostPass, OwnDesk};
+use crate::shared::Shared;
+use ct_host::{HostPass, OwnDesk};
 use ct_input::Request;
-use ct_instance::Instance;
 use ct_point::Seq;
 use ct_session::Session;
 use ct_version::{Gate, Stop, Version};
 use ct_workers::work;
-use std::alloc::{AllocError, Global};
+use std::alloc::AllocError;
 use std::sync::{Arc, Wait};
 
 // Takes steps up to the target, or up to the mark before it.
 fn worked<R: Wait, G: Gate>(
-    rt: &R,
-    alloc: Global,
-    host: &Host,
+    shared: &Shared<'_, R, G>,
     mut pass: HostPass,
-    gate: &G,
     who: u32,
     target: u64,
 ) -> Result<Kept, AllocError>
-    requires own { IsOfHost host.now pass }
+    requires own { IsOfHost shared.now.host.now pass }
     requires target { target ≤ GRADE_LIMIT }
-    ensures own { IfOk result (λ kept. IsOfHost host.now kept.pass) }
-    ensures end { IfOk result (λ kept. HasWorked (desk_place host.now.place) target kept.end) }
+    ensures own { IfOk result (λ kept. IsOfHost shared.now.host.now kept.pass) }
+    ensures end { IfOk result (λ kept. HasWorked (desk_place shared.now.host.now.place) target kept.end) }
 {
-    let ended = work(rt, alloc, &mut host.bench(&mut pass), gate, who, target);
+    let mut bench = shared.host.bench(&mut pass);
+    let ended = work(
+        shared.rt,
+        shared.alloc,
+        &mut bench,
+        shared.gate,
+        who,
+        target,
+    );
     match ended {
         Ok(helped) => Ok(Kept {
             pass,
@@ -50,27 +55,30 @@ fn worked<R: Wait, G: Gate>(
 
 // The lines of a session that begins with the first version.
 fn told<R: Wait, G: Gate>(
-    rt: &R,
-    alloc: Global,
-    host: &Host,
+    shared: &Shared<'_, R, G>,
     pass: HostPass,
-    inst: &Arc<Instance>,
     first: &Arc<Version>,
-    gate: &G,
     who: u32,
     requests: &[Request],
-    walks: bool,
 ) -> Result<Kept, AllocError>
-    requires own { IsOfHost host.now pass }
-    requires instance { arc_value inst.now ≡ host.now.place.instance }
-    requires first { IsOfPlace (desk_place host.now.place) (arc_value first.now) }
-    requires requests { All (IsRequest host.now.place.instance.rows) requests.now }
-    ensures own { IfOk result (λ kept. IsOfHost host.now kept.pass) }
-    ensures end { IfOk result (λ kept. HasTold (desk_place host.now.place) walks (arc_value first.now).number requests.now kept.end) }
+    requires own { IsOfHost shared.now.host.now pass }
+    requires instance { arc_value shared.now.inst.now ≡ shared.now.host.now.place.instance }
+    requires first { IsOfPlace (desk_place shared.now.host.now.place) (arc_value first.now) }
+    requires requests { All (IsRequest shared.now.host.now.place.instance.rows) requests.now }
+    ensures own { IfOk result (λ kept. IsOfHost shared.now.host.now kept.pass) }
+    ensures end { IfOk result (λ kept. HasTold (desk_place shared.now.host.now.place) shared.now.options.walks (arc_value first.now).number requests.now kept.end) }
 {
-    let desk = OwnDesk::new(host, pass);
-    let mut session = Session::open(alloc, Arc::try_clone(inst)?, desk, Arc::try_clone(first)?)?;
-    let lines = session.run_script(rt, alloc, gate, who, requests, walks)?;
+    let desk = OwnDesk::new(shared.host, pass);
+    let inst = Arc::try_clone(shared.inst)?;
+    let mut session = Session::open(shared.alloc, inst, desk, Arc::try_clone(first)?)?;
+    let lines = session.run_script(
+        shared.rt,
+        shared.alloc,
+        shared.gate,
+        who,
+        requests,
+        shared.options.walks,
+    )?;
     let (desk, _version) = session.close();
     Ok(Kept {
         pass: desk.into_pass(),
@@ -80,19 +88,14 @@ fn told<R: Wait, G: Gate>(
 
 // What a part with this job keeps.
 fn kept<R: Wait, G: Gate>(
-    rt: &R,
-    alloc: Global,
-    host: &Host,
-    inst: &Arc<Instance>,
+    shared: &Shared<'_, R, G>,
     first: &Arc<Version>,
-    gate: &G,
-    walks: bool,
     part: Part<'_>,
 ) -> Result<Kept, AllocError>
-    requires instance { arc_value inst.now ≡ host.now.place.instance }
-    requires first { IsOfPlace (desk_place host.now.place) (arc_value first.now) }
-    requires part { IsPart host.now part }
-    ensures { IfOk result (IsKept host.now walks (arc_value first.now).number part.entry.job) }
+    requires instance { arc_value shared.now.inst.now ≡ shared.now.host.now.place.instance }
+    requires first { IsOfPlace (desk_place shared.now.host.now.place) (arc_value first.now) }
+    requires part { IsPart shared.now.host.now part }
+    ensures { IfOk result (IsKept shared.now.host.now shared.now.options.walks (arc_value first.now).number part.entry.job) }
 {
     let Part { pass, who, job } = part;
     match job {
@@ -100,40 +103,24 @@ fn kept<R: Wait, G: Gate>(
             pass,
             end: End::Rested,
         }),
-        Job::Work { target } => worked(rt, alloc, host, pass, gate, who, target),
-        Job::Run { requests } => told(
-            rt,
-            alloc,
-            host,
-            pass,
-            inst,
-            first,
-            gate,
-            who,
-            requests.as_slice(),
-            walks,
-        ),
+        Job::Work { target } => worked(shared, pass, who, target),
+        Job::Run { requests } => told(shared, pass, first, who, requests.as_slice()),
     }
 }
 
 /// Runs a part to its end. It may wait for other parts.
 pub fn run_part<'a, R: Wait, G: Gate>(
-    rt: &R,
-    alloc: Global,
-    host: &Host,
-    inst: &Arc<Instance>,
+    shared: &Shared<'_, R, G>,
     first: &Arc<Version>,
-    gate: &G,
-    walks: bool,
     part: Part<'a>,
 ) -> Done<'a>
-    requires instance { arc_value inst.now ≡ host.now.place.instance }
-    requires first { IsOfPlace (desk_place host.now.place) (arc_value first.now) }
-    requires part { IsPart host.now part }
+    requires instance { arc_value shared.now.inst.now ≡ shared.now.host.now.place.instance }
+    requires first { IsOfPlace (desk_place shared.now.host.now.place) (arc_value first.now) }
+    requires part { IsPart shared.now.host.now part }
     ensures job { result.job ≡ part.entry.job }
-    ensures done { IsDone host.now walks (arc_value first.now).number result }
+    ensures done { IsDone shared.now.host.now shared.now.options.walks (arc_value first.now).number result }
 {
     let job = part.job;
-    let outcome = kept(rt, alloc, host, inst, first, gate, walks, part);
+    let outcome = kept(shared, first, part);
     Done { job, outcome }
 }

@@ -1,5 +1,5 @@
 //! A script is served.
-ghost use Rattle.std.specs.Prelude.{◌≡◌, ◌≤◌, ◌+◌, max, All, IfOk, length, vec_len};
+ghost use Rattle.std.specs.Prelude.{◌≡◌, ◌≤◌, ◌+◌, All, IfOk, length, vec_len};
 ghost use Rattle.std.specs.Arc.{arc_value};
 ghost use Rattle.ct_vectors.specs.declared.limits.TheConstants.{MOVE_LIMIT, WORKER_LIMIT, SESSION_LIMIT, PASS_LIMIT};
 ghost use Rattle.ct_input.specs.Script.{IsPhase, IsScript};
@@ -13,6 +13,7 @@ ghost use Rattle.ct_answer.specs.Told.{case_at};
 use crate::grades::raised;
 use crate::phases::run_phase;
 use crate::reaching::reach;
+use crate::shared::Shared;
 use ct_answer::Options;
 use ct_host::{Host, HostPass};
 use ct_input::{Phase, Script};
@@ -31,68 +32,45 @@ fn shown(level: Finished, levels: bool) -> Option<Finished>
     if levels { Some(level) } else { None }
 }
 
-// The greater of two counts.
-fn greater(a: usize, b: usize) -> usize
-    ensures { result ≡ max a b }
-{
-    if a < b { b } else { a }
-}
-
 // How many sessions the phase with the most of them has.
 fn most_sessions(phases: &[Phase]) -> usize
     requires { All (λ phase. length phase.sessions ≤ SESSION_LIMIT) phases.now }
     ensures most { All (λ phase. length phase.sessions ≤ result) phases.now }
     ensures limit { result ≤ SESSION_LIMIT }
 {
-    let mut most = 0;
+    let mut most: usize = 0;
     for phase in phases {
-        most = greater(most, phase.sessions.as_slice().len());
+        most = most.max(phase.sessions.as_slice().len());
     }
     most
 }
 
 // The report of each phase.
 fn phases_of<R: Threads + Wait + Sync, G: Gate + Sync>(
-    rt: &R,
-    alloc: Global,
-    host: &Host,
+    shared: &Shared<'_, R, G>,
     mut main: HostPass,
     mut passes: Vec<HostPass>,
-    inst: &Arc<Instance>,
     phases: &[Phase],
     workers: u32,
-    options: Options,
-    gate: &G,
 ) -> Result<Seq<PhaseReport>, AllocError>
-    requires main { IsOfHost host.now main }
-    requires own { All (IsOfHost host.now) passes.items }
+    requires main { IsOfHost shared.now.host.now main }
+    requires own { All (IsOfHost shared.now.host.now) passes.items }
     requires enough { All (λ phase. workers + length phase.sessions ≤ vec_len passes) phases.now }
-    requires instance { arc_value inst.now ≡ host.now.place.instance }
-    requires limit { options.limit ≡ host.now.place.limit }
-    requires phases { All (IsPhase host.now.place.instance.rows) phases.now }
-    ensures { IfOk result (AreLegalPhases (case_at (desk_place host.now.place) options) 0 phases.now) }
+    requires instance { arc_value shared.now.inst.now ≡ shared.now.host.now.place.instance }
+    requires limit { shared.now.options.limit ≡ shared.now.host.now.place.limit }
+    requires phases { All (IsPhase shared.now.host.now.place.instance.rows) phases.now }
+    ensures { IfOk result (AreLegalPhases (case_at (desk_place shared.now.host.now.place) shared.now.options) 0 phases.now) }
 {
-    let rows = inst.rows();
-    let mut told = Vec::new(alloc);
+    let rows = shared.inst.rows();
+    let mut told = Vec::new(shared.alloc);
     let mut grade = 0;
-    let mut held = reach(rt, alloc, host, &mut main, 0)?;
+    let mut held = reach(shared, &mut main, 0)?;
     for phase in phases {
-        let (back, sessions) = run_phase(
-            rt,
-            alloc,
-            host,
-            passes,
-            inst,
-            &held.version,
-            phase,
-            workers,
-            options.walks,
-            gate,
-        )?;
+        let (back, sessions) = run_phase(shared, passes, &held.version, phase, workers)?;
         passes = back;
         grade = raised(grade, rows, phase);
-        held = reach(rt, alloc, host, &mut main, grade)?;
-        let level = shown(held.level, options.levels);
+        held = reach(shared, &mut main, grade)?;
+        let level = shown(held.level, shared.options.levels);
         told.push(PhaseReport { sessions, level })?;
     }
     Ok(Seq::from_vec(told))
@@ -147,8 +125,14 @@ pub fn serve_report<R: Threads + Wait + Sync, G: Gate + Sync>(
     let phases = script.phases.as_slice();
     let count = 1 + workers + most_sessions(phases) as u32;
     let (host, main, passes) = opened(alloc, Arc::try_clone(inst)?, options.limit, count)?;
-    let phases = phases_of(
-        rt, alloc, &host, main, passes, inst, phases, workers, options, gate,
-    )?;
+    let shared = Shared {
+        rt,
+        alloc,
+        host: &host,
+        inst,
+        gate,
+        options,
+    };
+    let phases = phases_of(&shared, main, passes, phases, workers)?;
     Ok(Report { phases })
 }

@@ -10,8 +10,8 @@ loop-phase-preserved c =
     let inside : c.loop-phase.phase-index < length c.args.phases.now = omega arith in
     let few : length c.phase-item.result.sessions ≤ SESSION_LIMIT =
     at_item (λ (p : Phase). length p.sessions ≤ SESSION_LIMIT) c.args.phases.now c.loop-phase.phase-index c.phase-item.result inside c.phase-item.is c.requires in
-    let raised : c.greater-most.result ≡ max c.loop-phase.most (length c.phase-item.result.sessions) = omega (arith, c.greater-most.ensures, ap length c.as_slice.ensures) in
+    let raised : c.max-most.result ≡ max c.loop-phase.most (length c.phase-item.result.sessions) = omega (arith, c.max-most.ensures, ap length c.as_slice.ensures) in
     record {
-      most = most_more c.args.phases.now c.loop-phase.phase-index c.loop-phase.most c.phase-item.result inside c.phase-item.is c.loop-phase.invariant.most c.greater-most.result raised;
+      most = most_more c.args.phases.now c.loop-phase.phase-index c.loop-phase.most c.phase-item.result inside c.phase-item.is c.loop-phase.invariant.most c.max-most.result raised;
       limit = omega (arith, raised, few, c.loop-phase.invariant.limit);
     }

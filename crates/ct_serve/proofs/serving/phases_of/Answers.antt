@@ -20,22 +20,22 @@ run_phase-requires-clause-enough g c =
 pub run_phase-requires-clause-phase : goal.run_phase-requires-clause-phase
 run_phase-requires-clause-phase g c =
     let inside : c.loop-phase.phase-index < length c.args.phases.now = omega arith in
-    let is : IsPhase ((c.args.host.now.place).instance).rows c.phase-item.result =
-    at_item (IsPhase ((c.args.host.now.place).instance).rows) c.args.phases.now c.loop-phase.phase-index c.phase-item.result inside c.phase-item.is c.requires.phases in
+    let is : IsPhase ((c.args.shared.now.host.now.place).instance).rows c.phase-item.result =
+    at_item (IsPhase ((c.args.shared.now.host.now.place).instance).rows) c.args.phases.now c.loop-phase.phase-index c.phase-item.result inside c.phase-item.is c.requires.phases in
     search rules
 
 pub loop-phase-preserved : goal.loop-phase-preserved
 loop-phase-preserved g c =
     let inside : c.loop-phase.phase-index < length c.args.phases.now = omega arith in
-    let p = desk_place c.args.host.now.place in
+    let p = desk_place c.args.shared.now.host.now.place in
     record {
       main = c.reach-in-loop-phase.ensures.own;
       own = c.in_ok-back.ensures.own;
       count = c.in_ok-back.ensures.count ∙ c.loop-phase.invariant.count;
       limit = c.raised-grade.ensures.limit;
       held = c.in_ok-held-2.ensures.held;
-      served = served_more p (subst IsInstance (c.deref.ensures ∙ c.requires.instance) c.rows-rows.ensures.instance) c.args.options c.args.phases.now c.loop-phase.phase-index
+      served = served_more p (subst IsInstance (c.deref.ensures ∙ c.requires.instance) c.rows-rows.ensures.instance) c.args.shared.now.options c.args.phases.now c.loop-phase.phase-index
           c.loop-phase.grade c.raised-grade.result (arc_value c.loop-phase.held.version).number c.loop-phase.told.items _ c.phase-item.result _ inside c.phase-item.is
           c.loop-phase.invariant.served c.raised-grade.ensures.greatest (c.loop-phase.invariant.held).reached c.in_ok-back.ensures.told
-          (subst (λ (l : Level). IsLevelShown c.args.options.levels l c.shown-level.result) (c.in_ok-held-2.ensures.held).level c.shown-level.ensures) c.in_ok-push.ensures.items;
+          (subst (λ (l : Level). IsLevelShown c.args.shared.now.options.levels l c.shown-level.result) (c.in_ok-held-2.ensures.held).level c.shown-level.ensures) c.in_ok-push.ensures.items;
     }

@@ -8,10 +8,10 @@ use Rattle.ct_serve.proofs.serving.phases_of.Given as goal
 
 abbrev pub invariant-loop-phase : goal.invariant-loop-phase
 invariant-loop-phase g l = record {
-  main : IsOfHost l.host l.main;
-  own : All (IsOfHost l.host) l.passes.items;
+  main : IsOfHost l.shared.host.now l.main;
+  own : All (IsOfHost l.shared.host.now) l.passes.items;
   count : vec_len l.passes ≡ vec_len l.initial.passes;
   limit : l.grade ≤ GRADE_LIMIT;
-  held : IsHeld (desk_place l.host.place) l.grade l.held;
-  served : AreServedUpto (desk_place l.host.place) l.options l.phases l.phase-index l.grade l.told.items;
+  held : IsHeld (desk_place l.shared.host.now.place) l.grade l.held;
+  served : AreServedUpto (desk_place l.shared.host.now.place) l.shared.options l.phases l.phase-index l.grade l.told.items;
 }

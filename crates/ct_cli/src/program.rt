@@ -1,10 +1,11 @@
 //! What `main` does, with any words, files and output.
 
-use ct_outside::{FileShelf, StdSink};
+use ct_outside::{Disk, FileShelf, StdSink};
 use ct_run::{Status, run};
 use ct_version::NoGate;
 use std::alloc::AllocError;
 use std::env;
+use std::io;
 use std::io::ErrorKind;
 use std::rt::{Env, Files};
 use std::sync::Wait;
@@ -21,8 +22,8 @@ pub fn run_program<R: Threads + Wait + Sync, E: Env + AllocGlobal, F: Files, P: 
     let Ok(words) = words_after_name(env) else {
         return Status::Memory;
     };
-    let mut shelf = FileShelf::new(files, alloc);
-    let mut out = StdSink::new(output);
+    let mut shelf = FileShelf::new(Disk::new(files), alloc);
+    let mut out = StdSink::new(io::writer(output));
     run(rt, alloc, &words, &mut shelf, &mut out, &NoGate)
 }
 

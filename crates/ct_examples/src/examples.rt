@@ -3,7 +3,7 @@
 //! too early. The two files of an example are texts, `.txt`, or JSON, `.json`.
 
 use anyhow::Result;
-use ct_outside::{FileShelf, MemSink};
+use ct_outside::{Disk, FileShelf, MemSink};
 use ct_run::{Status, run};
 use ct_version::NoGate;
 use std::rt::Files;
@@ -29,7 +29,7 @@ fn written<R: Files + AllocGlobal + Threads + Wait + Sync>(
     }
     words.push(format!(in alloc; "{folder}/instance.{form}")?)?;
     words.push(format!(in alloc; "{folder}/sessions.{form}")?)?;
-    let mut shelf = FileShelf::new(rt, alloc);
+    let mut shelf = FileShelf::new(Disk::new(rt), alloc);
     let mut out = MemSink::new(alloc, 4096, 1_048_576)?;
     let status = run(rt, alloc, &words, &mut shelf, &mut out, &NoGate);
     Ok(if status == Status::Done {

@@ -1,50 +1,41 @@
-//! The files of the file system.
+//! The files of a folder.
 ghost use Rattle.std.specs.Prelude.{◌≡◌, ◌≢◌, ◌≤◌, ◌⊎◌, [], ℕ, List, vec_len, OnOk, IsErrOf};
 ghost use Rattle.std.specs.Io.KnownBytes.{Consumes, IsAtEnd};
 ghost use Rattle.std.specs.IoError.{error_kind};
 ghost use Rattle.ct_outside.specs.Faults.{count_of};
 ghost use Rattle.ct_outside.specs.FileShelf.{fault_of_kind};
-ghost use Rattle.ct_outside.specs.Shelf.{untold, Leaves, HasCause, KeepsShelf, failed_after};
+ghost use Rattle.ct_outside.specs.Shelf.{Leaves, HasCause, KeepsShelf, failed_after};
 
 use crate::failed_names::FailedNames;
-use crate::{FetchFault, Shelf};
+use crate::{FetchFault, Folder, Shelf};
 use std::alloc::Global;
-use std::fs;
 use std::io::{Error, ErrorKind, Read};
-use std::marker::Model;
-use std::rt::Files;
 
 const PIECE: usize = 16384;
 
-/// The files of the file system, by their paths. It tells no content, and is seen as the names whose
-/// fetch failed, each as often as it failed.
+/// The files of a folder. It tells what the folder tells, and counts the names whose fetch failed.
 #[derive(Drop)]
-pub struct FileShelf<'a, R> {
-    rt: &'a R,
+pub struct FileShelf<F> {
+    folder: F,
     failed: FailedNames,
 }
 
-impl<'a, R> Model for FileShelf<'a, R> {
-    ghost Value = { List (List ℕ) };
-
-    ghost view = { λ a. a.failed };
-}
-
-impl<'a, R: Files> FileShelf<'a, R> {
-    pub fn new(rt: &'a R, alloc: Global) -> FileShelf<'a, R>
-        ensures { result ≡ [] }
+impl<F: Folder> FileShelf<F> {
+    pub fn new(folder: F, alloc: Global) -> FileShelf<F>
+        ensures folder { result.folder ≡ folder }
+        ensures failed { result.failed ≡ [] }
     {
         FileShelf {
-            rt,
+            folder,
             failed: FailedNames::new(alloc),
         }
     }
 }
 
-impl<'a, R: Files> Shelf for FileShelf<'a, R> {
-    ghost told = { λ _ _. untold };
+impl<F: Folder> Shelf for FileShelf<F> {
+    ghost told = { λ shelf. F.told shelf.folder };
 
-    ghost faults = { count_of };
+    ghost faults = { λ shelf. count_of shelf.failed };
 
     fn fetch(
         &mut self,
@@ -53,14 +44,15 @@ impl<'a, R: Files> Shelf for FileShelf<'a, R> {
         limit: u64,
         into: &mut Vec<u8>,
     ) -> Result<(), FetchFault>
-        ensures leaves { Leaves untold limit into.new.items result }
-        ensures cause { HasCause (count_of self.old name.now) (count_of self.new name.now) result }
-        ensures shelf { KeepsShelf (λ _. untold) (λ _. untold) (count_of self.old) (count_of self.new) (λ other. other ≡ name.now) }
-        ensures after { self.new ≡ failed_after self.old name.now result }
+        ensures leaves { Leaves (F.told self.old.folder name.now) limit into.new.items result }
+        ensures cause { HasCause (count_of self.old.failed name.now) (count_of self.new.failed name.now) result }
+        ensures shelf { KeepsShelf (F.told self.old.folder) (F.told self.new.folder) (count_of self.old.failed) (count_of self.new.failed) (λ other. other ≡ name.now) }
+        ensures folder { self.new.folder ≡ self.old.folder }
+        ensures after { self.new.failed ≡ failed_after self.old.failed name.now result }
     {
         into.clear();
         self.failed.note(alloc, name)?;
-        match read_file(self.rt, name, limit, into) {
+        match read_file(&self.folder, name, limit, into) {
             Err(FetchFault::Failed) => Err(FetchFault::Failed),
             outcome => {
                 self.failed.forget_last();
@@ -70,12 +62,17 @@ impl<'a, R: Files> Shelf for FileShelf<'a, R> {
     }
 }
 
-// The file at this path into an empty buffer, as far as the limit and one byte more.
-fn read_file<R: Files>(rt: &R, path: &str, limit: u64, into: &mut Vec<u8>) -> Result<(), FetchFault>
+// The file of this name into an empty buffer, as far as the limit and one byte more.
+fn read_file<F: Folder>(
+    folder: &F,
+    name: &str,
+    limit: u64,
+    into: &mut Vec<u8>,
+) -> Result<(), FetchFault>
     requires { into.old.items ≡ [] }
-    ensures { Leaves untold limit into.new.items result }
+    ensures { Leaves (F.told folder.now name.now) limit into.new.items result }
 {
-    let mut file = match fs::open(rt, path) {
+    let mut file = match folder.open(name) {
         Ok(file) => file,
         Err(error) => return Err(fault_of(&error)),
     };

@@ -1,7 +1,10 @@
 //! What no clause says: that calls succeed, and that the real files and standard output give and take bytes.
+ghost use Rattle.ct_outside.specs.Shelf.{untold};
+
 use super::*;
-use std::fs;
+use std::io::{ErrorKind, Read, Write};
 use std::test::Fail;
+use std::{fs, io};
 
 const TEXT: &[u8] = b"report 1\nphase 0\nsession 1\noptimum 9 at 0 3\nend\n";
 
@@ -63,57 +66,142 @@ fn a_sink_in_memory_holds_a_front_of_the_text(rt: HostRuntime) -> Result<(), Fai
     Ok(())
 }
 
-// Each fetch: the path, its text, the limit, the fault where there is one, and how many bytes are left.
+// How much of a text comes or is taken at once, with an interrupt before each time, and before which byte there is an error.
+#[derive(Clone, Copy)]
+struct Pace {
+    piece: usize,
+    breaks: usize,
+}
+
+// A file that comes in pieces.
+#[derive(Drop)]
+struct Pieces<'a> {
+    rest: &'a [u8],
+    pace: Pace,
+    interrupted: bool,
+}
+
+impl Read for Pieces<'_> {
+    fn read(&mut self, buf: &mut [u8]) -> io::Result<usize> {
+        self.interrupted = !self.interrupted;
+        if self.interrupted {
+            return Err(io::Error::from(ErrorKind::Interrupted));
+        }
+        if self.rest.len() == self.pace.breaks {
+            return Err(io::Error::from(ErrorKind::BrokenPipe));
+        }
+        let count = self.rest.len().min(self.pace.piece).min(buf.len());
+        buf[..count].copy_from_slice(&self.rest[..count]);
+        self.rest = &self.rest[count..];
+        Ok(count)
+    }
+}
+
+// Gives this text for the name `text`, and nobody may read `locked`.
+#[derive(Drop)]
+struct Desk<'a> {
+    text: &'a [u8],
+    pace: Pace,
+}
+
+impl<'a> Folder for Desk<'a> {
+    type File = Pieces<'a>;
+
+    ghost told = { λ _ _. untold };
+
+    fn open(&self, name: &str) -> io::Result<Pieces<'a>> {
+        if name == "locked" {
+            return Err(io::Error::from(ErrorKind::PermissionDenied));
+        }
+        Ok(Pieces {
+            rest: self.text,
+            pace: self.pace,
+            interrupted: false,
+        })
+    }
+}
+
+// An output that takes this text in pieces, and nothing else.
+#[derive(Drop)]
+struct Mouth<'a> {
+    rest: &'a [u8],
+    pace: Pace,
+    interrupted: bool,
+}
+
+impl Write for Mouth<'_> {
+    fn write(&mut self, buf: &[u8]) -> io::Result<usize> {
+        self.interrupted = !self.interrupted;
+        if self.interrupted {
+            return Err(io::Error::from(ErrorKind::Interrupted));
+        }
+        let count = self.rest.len().min(self.pace.piece);
+        let is_next = buf.len() == self.rest.len() && buf[..count] == self.rest[..count];
+        if self.rest.len() == self.pace.breaks || !is_next {
+            return Err(io::Error::from(ErrorKind::BrokenPipe));
+        }
+        self.rest = &self.rest[count..];
+        Ok(count)
+    }
+
+    fn flush(&mut self) -> io::Result<()> {
+        Ok(())
+    }
+}
+
+// Each pace, and whether the text comes and goes whole.
+#[test]
+fn a_long_text_in_pieces(rt: HostRuntime) -> Result<(), Fail> {
+    let alloc = rt.alloc();
+    let mut long = Vec::new(alloc);
+    for number in 0..120_000u32 {
+        long.push((number % 251) as u8)?;
+    }
+    let text = long.as_slice();
+    for (piece, breaks, whole) in [
+        (1, usize::MAX, true),
+        (7, usize::MAX, true),
+        (60_000, usize::MAX, true),
+        (70_000, usize::MAX, true),
+        (7, 70_006, false),
+    ] {
+        let pace = Pace { piece, breaks };
+        let mut shelf = FileShelf::new(Desk { text, pace }, alloc);
+        let mut into = Vec::new(alloc);
+        let fetched = shelf.fetch(alloc, "text", 120_000, &mut into);
+        assert!(rt; fetched.is_ok() == whole && (into.as_slice() == text) == whole);
+        let locked = shelf.fetch(alloc, "locked", 120_000, &mut into);
+        assert!(rt; locked == Err(FetchFault::Failed));
+        let to = Mouth {
+            rest: text,
+            pace,
+            interrupted: false,
+        };
+        assert!(rt; write_whole(&mut StdSink::new(to), text).is_ok() == whole);
+    }
+    Ok(())
+}
+
+// The file system and standard output: a blank is part of a name, and `-` is a name like others.
 #[test]
 fn the_file_system_and_standard_output(rt: HostRuntime) -> Result<(), Fail> {
     let alloc = rt.alloc();
-    let mut long = Vec::new(alloc);
-    for number in 0..40_000u32 {
-        long.push((number % 251) as u8)?;
-    }
-    for (path, text) in [("ct_outside_text", TEXT), ("ct_outside_long", &long)] {
-        fs::write(&rt, path, text)?;
-    }
-    let whole = TEXT.len();
-    let mut shelf = FileShelf::new(&rt, alloc);
+    fs::write(&rt, "ct_outside_text", TEXT)?;
+    fs::write(&rt, "ct_outside_text ", b"other")?;
+    let mut shelf = FileShelf::new(Disk::new(&rt), alloc);
     let mut into = Vec::new(alloc);
-    for (path, text, limit, fault, left) in [
-        ("ct_outside_text", TEXT, 1000, None, whole),
-        ("ct_outside_text", TEXT, whole as u64, None, whole),
-        ("ct_outside_text", TEXT, 20, Some(FetchFault::TooLong), 21),
-        ("ct_outside_long", &long, 1_000_000, None, 40_000),
-        ("ct_outside_long", &long, 40_000, None, 40_000),
-        (
-            "ct_outside_long",
-            &long,
-            39_999,
-            Some(FetchFault::TooLong),
-            40_000,
-        ),
-        (
-            "ct_outside_long",
-            &long,
-            16_384,
-            Some(FetchFault::TooLong),
-            16_385,
-        ),
-        (
-            "ct_outside_long",
-            &long,
-            16_383,
-            Some(FetchFault::TooLong),
-            16_384,
-        ),
-        ("ct_outside_none", TEXT, 1000, Some(FetchFault::Failed), 0),
-        (".", TEXT, 1000, Some(FetchFault::Failed), 0),
+    for (path, limit, fault, left) in [
+        ("ct_outside_text", 1000, None, TEXT),
+        ("ct_outside_text ", 5, None, b"other"),
+        ("ct_outside_text ", 2, Some(FetchFault::TooLong), b"oth"),
+        ("-", 1000, Some(FetchFault::Failed), b""),
+        (".", 1000, Some(FetchFault::Failed), b""),
     ] {
         let result = shelf.fetch(alloc, path, limit, &mut into);
-        assert!(rt; result.err() == fault, "{path} {limit}");
-        assert!(rt; text.get(..left) == Some(into.as_slice()), "{path} {limit}");
+        assert!(rt; result.err() == fault && into.as_slice() == left, "{path}");
     }
-    for path in ["ct_outside_text", "ct_outside_long"] {
-        fs::remove_file(&rt, path)?;
-    }
-    write_whole(&mut StdSink::new(&rt), TEXT)?;
+    fs::remove_file(&rt, "ct_outside_text")?;
+    fs::remove_file(&rt, "ct_outside_text ")?;
+    write_whole(&mut StdSink::new(io::writer(&rt)), TEXT)?;
     Ok(())
 }

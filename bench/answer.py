@@ -1,13 +1,14 @@
 #!/usr/bin/env python3
-"""`answer` beside the yardstick and, where they are installed, other programs, on the same input in one run.
+"""`answer` beside the yardsticks and, where they are installed, other programs, on the same input in one run.
 
     bench/answer.py PATH_TO_CT [NAME ...]
 
-For each set of bench/gen.py (all but cut5x30 if no NAME is given) both programs answer the same file with walks and levels, in
-turn, three times; the best processor time of each counts, and the reports must be the same bytes. Printed are the ratio, the
-peak of memory, the moves and the jobs of the yardstick, and the part of its time that completes the test set. Then the growth
-with the number of right-hand sides (a tenth of them, with the greatest sum, so that the test set is the same), and coins of 3
-and 5 with right-hand sides up to 10^12, where walks are three steps long. glpsol answers some right-hand sides, a process each.
+For each set of bench/gen.py (all of its SETS but cut5x30, and coins, if no NAME is given) the programs answer the same file with
+walks and levels, in turn, three times; the best processor time of each counts, and the reports must be the same bytes. The
+programs are yard.cpp; yard2.cpp, which does what `ct` does; and `yard2 --best`, which does what would come next. Printed is a
+row of a table: the time, its ratios, the peaks of memory, and how the time grows from a tenth of the right-hand sides (with the
+greatest sum, so that the test set is the same); a peak is never below that of this script. coins are of 3 and 5 with right-hand sides up to 10^12, where walks are three
+steps long. glpsol answers some right-hand sides, a process each.
 """
 import os
 import shutil
@@ -45,18 +46,19 @@ def write(folder, name, instance):
     return files
 
 
-def beside(program, yard, files):
-    """Both in turn: the best time of each, the greatest peak of each, and what the yardstick counted."""
-    ours, theirs, peaks, counted = float("inf"), float("inf"), [0.0, 0.0], {}
-    for _ in range(ROUNDS):
-        text, _, time, peak = run([program, "answer", *files, "--walks", "--levels"])
-        ours, peaks[0] = min(ours, time), max(peaks[0], peak)
-        same, said, time, peak = run([yard, *files, "--walks", "--levels"])
-        theirs, peaks[1] = min(theirs, time), max(peaks[1], peak)
-        counted = dict(line.split(None, 1) for line in said.splitlines() if len(line.split()) == 2)
-        if text != same:
-            sys.exit(f"{files[0]}: the reports differ")
-    return ours, theirs, peaks, counted
+def beside(programs, files, rounds):
+    """All in turn: the best time and the greatest peak of each by its name, and what the last yardstick counted. A program is
+    the words before the files and those after them."""
+    times, peaks, counted, texts = {}, {}, {}, set()
+    for _ in range(rounds):
+        for name, (words, more) in programs.items():
+            text, said, time, peak = run([*words, *files, "--walks", "--levels", *more])
+            times[name], peaks[name] = min(times.get(name, time), time), max(peaks.get(name, peak), peak)
+            counted = dict(line.split(None, 1) for line in said.splitlines() if len(line.split()) == 2) or counted
+            texts.add(text)
+    if len(texts) > 1:
+        sys.exit(f"{files[0]}: the reports differ")
+    return times, peaks, counted
 
 
 def tenth(rights):
@@ -81,30 +83,39 @@ def peer(folder, name, instance):
     return total / 10
 
 
+def processor():
+    with open("/proc/cpuinfo", encoding="utf-8") as it:
+        return next((line.split(":")[1].strip() for line in it if line.startswith("model name")), "an unknown processor")
+
+
+def built(folder):
+    """The yardsticks, compiled into the folder."""
+    here = os.path.dirname(os.path.abspath(__file__))
+    for name, flags in (("yard", []), ("yard2", ["-march=native"])):
+        subprocess.run(["g++", "-O2", *flags, "-std=c++17", "-o", f"{folder}/{name}", f"{here}/{name}.cpp"], check=True)
+    return {"yard": ([f"{folder}/yard"], []), "yard2": ([f"{folder}/yard2"], []), "best": ([f"{folder}/yard2"], ["--best"])}
+
+
 def main():
     if len(sys.argv) < 2:
         sys.exit(__doc__)
-    program = sys.argv[1]
     names = sys.argv[2:] or [name for name in gen.SETS if name != "cut5x30"] + ["coins"]
     has_peer = shutil.which("glpsol")
-    if not has_peer:
-        print("glpsol isn't installed: skipped")
+    print(f"{processor()}; ms of processor time, the best of {ROUNDS}" + ("" if has_peer else "; glpsol isn't installed"))
+    print("| set (moves) | ct | of yard's | of yard2's | of best's | MB, ct beside yard2 and best | from a tenth |" + (" glpsol |" if has_peer else ""))
+    print("|---|---|---|---|---|---|---|" + ("---|" if has_peer else ""))
     with tempfile.TemporaryDirectory() as folder:
-        yard = os.path.join(folder, "yard")
-        source = os.path.join(os.path.dirname(os.path.abspath(__file__)), "yard.cpp")
-        subprocess.run(["g++", "-O2", "-std=c++17", "-o", yard, source], check=True)
+        programs = {"ct": ([sys.argv[1], "answer"], []), **built(folder)}
         for name in names:
-            instance = COINS if name == "coins" else gen.SETS[name]()
+            instance = COINS if name == "coins" else (gen.SETS | gen.MORE)[name]()
             matrix, cost, rights = instance
-            ours, theirs, peaks, counted = beside(program, yard, write(folder, name, instance))
-            few, _, _, _ = beside(program, yard, write(folder, name + "-few", (matrix, cost, tenth(rights))))
-            line = (
-                f"{name} ({counted['moves']} moves, {counted.get('jobs', counted.get('pairs', '?'))} jobs, {len(rights)} right-hand sides): "
-                f"{ours:.3f} s, {ours / theirs:.2f} of the yardstick's, peak {peaks[0]:.0f} MB beside {peaks[1]:.0f}; "
-                f"{ours / few:.2f} times a tenth of the right-hand sides"
-            )
+            times, peaks, counted = beside(programs, write(folder, name, instance), ROUNDS)
+            ours = times["ct"]
+            few, _, _ = beside({"ct": programs["ct"]}, write(folder, name + "-few", (matrix, cost, tenth(rights))), ROUNDS)
+            ratios = " | ".join(f"{ours / times[other]:.2f}" for other in ("yard", "yard2", "best"))
+            line = f"| {name} ({counted['moves']}) | {1000 * ours:.1f} | {ratios} | {peaks['ct']:.0f} beside {peaks['yard2']:.0f}, {peaks['best']:.0f} | {ours / few['ct']:.2f} |"
             if has_peer:
-                line += f"; glpsol {peer(folder, name, instance) / (ours / len(rights)):.1f} times as long a right-hand side"
+                line += f" {peer(folder, name, instance) / (ours / len(rights)):.1f} |"
             print(line, flush=True)
 
 

@@ -8,13 +8,14 @@ use std::alloc::Global;
 use std::process::Abort;
 use std::sync::Wait;
 
-// Its pins find the number of the book's version, and its help completes the book. A desk without memory shares no
-// version in a pin.
+// Its pins find the number of the book's version, and its help completes the book. A desk whose turn another has is busy,
+// and one without memory shares no version in a pin.
 #[derive(Drop)]
 pub struct BookDesk<'a, R> {
     pub rt: &'a R,
     pub book: Book,
     pub words: Vec<u64>,
+    pub is_busy: bool,
     pub has_memory: bool,
     pub refused: u64,
     ghost some_pass: { 0 < book.passes },
@@ -37,6 +38,11 @@ impl<'a, R: Abort> Desk for BookDesk<'a, R> {
 
     fn pin(&mut self, held: u64) -> Pin {
         let number = self.book.version().number();
+        if self.is_busy {
+            let word = 2 * number + 1;
+            note(self.rt, &mut self.words, word);
+            return Pin::Busy { word };
+        }
         note(self.rt, &mut self.words, 2 * number);
         if number <= held {
             return Pin::NotNewer { number };

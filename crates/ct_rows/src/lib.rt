@@ -1,9 +1,22 @@
-//! Rows that take more than one crate: sessions over a desk that has a book to itself, and answers beside a listing.
+//! Rows that no clause decides: that calls come through with memory, at the limits and with each kind of argument, and what a
+//! session tells over a desk of its own.
 #![tactic(auto)]
 
 #[cfg(test)]
 mod book_desk;
 #[cfg(test)]
-mod listing_tests;
+mod index_tests;
+#[cfg(test)]
+mod instance_tests;
+#[cfg(test)]
+mod line_tests;
+#[cfg(test)]
+mod list_tests;
+#[cfg(test)]
+mod point_tests;
+#[cfg(test)]
+mod report_tests;
+#[cfg(test)]
+mod slow_tests;
 #[cfg(test)]
 mod tests;

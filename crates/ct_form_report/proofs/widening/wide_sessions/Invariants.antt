@@ -1,0 +1,11 @@
+use Rattle.std.proofs.Common.{◌≡◌, ◌++◌, map}
+use Rattle.std.specs.Vec.Iter.{into_iter_items}
+use Rattle.ct_form_report.specs.FormCases.{request_with}
+use Rattle.ct_form_report.proofs.widening.wide_sessions.Given as goal
+
+-- what was made, and what is still to come
+abbrev pub invariant-loop-requests : goal.invariant-loop-requests
+invariant-loop-requests l = record {
+  made : l.made.items ≡ map (map (request_with l.fn.given)) l.yielded;
+  rest : l.fn.sessions ≡ l.yielded ++ into_iter_items l.requests-iterator;
+}

@@ -1,0 +1,2 @@
+pub mod FormCases
+pub mod Laws

@@ -1,0 +1,3 @@
+pub mod FormText
+pub mod Files
+pub mod Laws

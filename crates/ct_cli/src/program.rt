@@ -4,12 +4,11 @@ use ct_outside::{Disk, FileShelf, StdSink};
 use ct_run::{Status, run};
 use ct_version::NoGate;
 use std::alloc::AllocError;
-use std::env;
-use std::io;
 use std::io::ErrorKind;
 use std::rt::{Env, Files};
 use std::sync::Wait;
 use std::thread::Threads;
+use std::{env, io};
 
 /// Runs the command that the words after the program's name are.
 pub fn run_program<R: Threads + Wait + Sync, E: Env + AllocGlobal, F: Files, P: Print>(

@@ -1,0 +1,4 @@
+//! The k least solutions for a right-hand side, least first.
+#![tactic(auto)]
+
+pub mod laws;

@@ -1,3 +1,6 @@
 pub mod Orders
 pub mod Points
 pub mod Lists
+pub mod Closed
+pub mod Backwards
+pub mod Frontier

@@ -4,3 +4,4 @@ pub mod Lists
 pub mod Closed
 pub mod Backwards
 pub mod Frontier
+pub mod Cut

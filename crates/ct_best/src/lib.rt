@@ -5,9 +5,16 @@
 //! points of the fiber are never listed.
 #![tactic(auto)]
 
+mod best_list;
 pub mod laws;
 mod ordered;
 mod search;
 mod steps;
+mod stops;
 
+pub use best_list::{BestList, best};
 pub use search::least_found;
+pub use stops::BestStop;
+
+#[cfg(test)]
+mod tests;

@@ -1,5 +1,5 @@
 -- Moves taken backwards: where they lead, and that no coordinate overflows.
-use Rattle.std.proofs.Common.{ℕ, ◌≤◌, ◌<◌, ◌^◌, ◌≡◌, List, All, length, get_or, sym, subst, ap, ◌∙◌, arith}
+use Rattle.std.proofs.Common.{ℕ, ◌≤◌, ◌<◌, ◌^◌, ◌≡◌, List, All, get_or, sym, subst, ap, ◌∙◌, arith}
 use Rattle.std.proofs.lemmas.List.{get_or_default}
 use Rattle.ct_vectors.specs.Vectors.{total, add, subtract, scale, Divides}
 use Rattle.ct_vectors.specs.declared.limits.TheConstants.{GRADE_LIMIT, JOB_GRADE_LIMIT}
@@ -8,11 +8,11 @@ use Rattle.ct_vectors.proofs.Divisors.{add-subtract}
 use Rattle.ct_order.specs.Order.{art_total_of}
 use Rattle.ct_order.proofs.Order.{below-add_left, art_total-add}
 use Rattle.ct_instance.specs.Instance.{Problem, IsInstance, IsPoint, column_count, degree_of, grade_of}
-use Rattle.ct_instance.specs.Fiber.{IsInFiber, IsBelow}
+use Rattle.ct_instance.specs.Fiber.{IsBelow}
 use Rattle.ct_instance.specs.TestSet.{Binomial}
 use Rattle.ct_instance.specs.Walk.{IsMove}
 use Rattle.ct_instance.proofs.Degree.{columns, degree_of_swap, coordinate-le-grade}
-use Rattle.ct_best.specs.Search.{IsSolutionPoint, CanStepUp, IsStepUp}
+use Rattle.ct_best.specs.Search.{IsSolutionPoint, IsStepUp}
 
 -- a coordinate is at most the grade
 pub coordinates_within : (i : Problem) → IsInstance i → (p : List ℕ) → grade_of i.columns p ≤ GRADE_LIMIT → All (λ x. x ≤ GRADE_LIMIT) p

@@ -1,6 +1,6 @@
 -- An ordered list of at most k items: putting one in keeps what was reached, and a list that is closed under steps has
 -- the k least.
-use Rattle.std.proofs.Common.{ℕ, ◌+◌, ◌≤◌, ◌<◌, ◌≡◌, ◌⊎◌, inl, inr, ⊎_elim, List, [], ◌∷◌, ◌++◌, length, get_or, take, drop, Contains, refl, sym, subst, ap, ◌∙◌, arith, zero, suc}
+use Rattle.std.proofs.Common.{ℕ, ◌+◌, ◌≤◌, ◌<◌, ◌≡◌, ◌⊎◌, inl, inr, ⊎_elim, List, ◌∷◌, ◌++◌, length, get_or, take, drop, Contains, sym, subst, ◌∙◌, arith, zero, suc}
 use Rattle.std.specs.List.{insert}
 use Rattle.std.proofs.lemmas.List.{length-take, length-drop, take-append-drop, get_or-take, drop_more}
 use Rattle.std.proofs.lemmas.List.Edits.{length-insert, get_or-insert_below}

@@ -1,19 +1,18 @@
 -- From points to solutions of n numbers, and from a version to the k least.
-use Rattle.std.proofs.Common.{ℕ, ℤ, refl, ◌≤◌, ◌<◌, ◌≡◌, ◌⊎◌, inl, inr, ⊎_elim, Bool, true, false, cond, nat_eq, List, [], ◌++◌, length, take, map, Contains, All, AllPairs, sym, subst, ap, ◌∙◌, arith, eqb-true}
+use Rattle.std.proofs.Common.{ℕ, ℤ, refl, ◌≡◌, ⊎_elim, Bool, true, false, cond, nat_eq, List, [], take, map, Contains, All, sym, subst, ap, ◌∙◌, arith, eqb-true}
 use Rattle.std.proofs.lemmas.List.{take_at, length-map}
 use Rattle.std.proofs.lemmas.List.Elements.{All-map, Contains-append_left, Contains-get_or, All-contains}
-use Rattle.ct_vectors.specs.Vectors.{total, zeros}
+use Rattle.ct_vectors.specs.Vectors.{zeros}
 use Rattle.ct_order.specs.Order.{art_total_of}
 use Rattle.ct_instance.specs.Instance.{Problem, IsInstance, IsRight, column_count}
 use Rattle.ct_instance.specs.Fiber.{IsBelow, least_of}
-use Rattle.ct_instance.specs.Answer.{IsSolution, Outcome, optimum, infeasible, outcome_of, answer_of, costs_of}
+use Rattle.ct_instance.specs.Answer.{IsSolution, optimum, infeasible, answer_of, costs_of}
 use Rattle.ct_instance.specs.TestSet.{Binomial, test_list}
 use Rattle.ct_instance.specs.Versions.{Covers, level_of, version_list, IsVersion}
 use Rattle.ct_instance.proofs.Answer.{art_total_of_solution, solution_in_fiber, solution_of_point, answer_cases, short_has_no_solution}
-use Rattle.ct_instance.proofs.Lists.{Contains-map, map_gives, Contains-nil}
-use Rattle.ct_instance.proofs.Ordered.{InOrder, InOrder-pairs, InOrder-from_pairs, InOrder-map}
+use Rattle.ct_instance.proofs.Lists.{Contains-map, map_gives}
+use Rattle.ct_instance.proofs.Ordered.{InOrder-pairs, InOrder-from_pairs, InOrder-map}
 use Rattle.ct_levels.proofs.Lists.{list_begins}
-use Rattle.ct_version.specs.declared.answers.AnswerKind.{AnswerKind}
 use Rattle.ct_version.specs.declared.answers.AnswerKind.TheVariants.{Optimum as KindOptimum, Infeasible as KindInfeasible}
 use Rattle.ct_version.specs.Answers.{kind_of}
 use Rattle.ct_best.specs.Best.{point_of, IsSmaller, AreBest}

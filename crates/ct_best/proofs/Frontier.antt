@@ -1,9 +1,9 @@
 -- The loops of the search: how the list grows, and that at the end it has the k least.
-use Rattle.std.proofs.Common.{ℕ, ◌+◌, ◌-◌, ◌≤◌, ◌<◌, ◌≡◌, ◌⊎◌, inl, inr, ⊎_elim, List, [], ◌∷◌, ◌++◌, length, get_or, take, drop, Contains, All, AllPairs, refl, sym, subst, ap, ◌∙◌, arith, zero, suc}
+use Rattle.std.proofs.Common.{ℕ, ◌+◌, ◌-◌, ◌≤◌, ◌<◌, ◌≡◌, ◌⊎◌, inl, inr, ⊎_elim, List, [], ◌∷◌, length, get_or, take, drop, Contains, All, AllPairs, refl, sym, subst, ap, ◌∙◌, arith, zero, suc}
 use Rattle.std.specs.List.{insert}
 use Rattle.std.proofs.lemmas.Bool.{cases_lt}
 use Rattle.std.proofs.lemmas.List.{get_or_default, take_more, take_all, drop_more, drop_all, length-take-le, length-drop, get_or-take, get_or-drop}
-use Rattle.std.proofs.lemmas.List.Elements.{All-contains, All-get_or, Contains-get_or, Contains-append_cases}
+use Rattle.std.proofs.lemmas.List.Elements.{All-contains, Contains-get_or, Contains-append_cases}
 use Rattle.ct_vectors.specs.Vectors.{total, add, subtract}
 use Rattle.ct_order.specs.Order.{art_total_of}
 use Rattle.ct_vectors.specs.declared.limits.TheConstants.{GRADE_LIMIT}
@@ -13,12 +13,11 @@ use Rattle.ct_walk.specs.Moves.{IsSmallMove}
 use Rattle.ct_walk.proofs.SlabFacts.{the_move_get}
 use Rattle.ct_instance.specs.Fiber.{IsInFiber, IsBelow, least_of}
 use Rattle.ct_instance.specs.TestSet.{Binomial, test_list}
-use Rattle.ct_instance.specs.Walk.{IsMove, AreMoves}
+use Rattle.ct_instance.specs.Walk.{IsMove}
 use Rattle.ct_instance.proofs.Fiber.{below_chain, points_cases, least_below, least_in_fiber, rank_of, rank_falls}
-use Rattle.ct_instance.proofs.Lists.{Contains-here, Contains-cons_cases, Contains-nil}
+use Rattle.ct_instance.proofs.Lists.{Contains-cons_cases, Contains-nil}
 use Rattle.ct_instance.proofs.Ordered.{InOrder, InOrder-pairs, InOrder-from_pairs}
 use Rattle.ct_best.specs.Search.{IsSolutionPoint, AreBestPoints, CanStepUp, IsStepUp, IsReached, IsFrontier, IsPutIn}
-use Rattle.ct_best.proofs.Orders.{in_front}
 use Rattle.ct_best.proofs.Points.{Below, point_below}
 use Rattle.ct_best.proofs.Closed.{all_reached, put_ordered, put_members, put_most, put_longer, put_stays, put_reached, put_keeps}
 use Rattle.ct_best.proofs.Backwards.{step_up_is_solution, step_up_is_above}

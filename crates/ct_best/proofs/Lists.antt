@@ -1,16 +1,16 @@
 -- The list of the k least solutions: there is one, and only one.
-use Rattle.std.proofs.Common.{ℕ, ◌≤◌, ◌≡◌, ◌⊎◌, inl, inr, ⊎_elim, true, nat_eq, List, [], ◌++◌, map, filter, take, Contains, All, sym, subst, ◌∙◌, arith, eqb-true, eq-eqb}
+use Rattle.std.proofs.Common.{ℕ, ◌≡◌, inl, inr, ⊎_elim, nat_eq, List, map, filter, take, Contains, sym, subst, ◌∙◌, eqb-true, eq-eqb}
 use Rattle.std.proofs.lemmas.List.{take_at}
 use Rattle.std.proofs.lemmas.List.Elements.{All-contains, Contains-get_or}
 use Rattle.ct_vectors.specs.Vectors.{zeros}
 use Rattle.ct_order.specs.Order.{art_total_of}
 use Rattle.ct_instance.specs.Instance.{Problem, IsInstance, IsRight, column_count}
-use Rattle.ct_instance.specs.Fiber.{fiber_of, IsInFiber}
+use Rattle.ct_instance.specs.Fiber.{fiber_of}
 use Rattle.ct_instance.specs.Answer.{IsSolution}
 use Rattle.ct_instance.proofs.Answer.{art_total_of_solution, same_front, solution_in_fiber, solution_of_point}
 use Rattle.ct_instance.proofs.Fiber.{fiber_lists, below_itself, below_chain, points_cases}
 use Rattle.ct_instance.proofs.Lists.{Contains-filter, filter_gives, Contains-map, map_gives}
-use Rattle.ct_instance.proofs.Ordered.{InOrder, InOrder-pairs, InOrder-from_pairs}
+use Rattle.ct_instance.proofs.Ordered.{InOrder-pairs, InOrder-from_pairs}
 use Rattle.ct_best.specs.Best.{point_of, IsSmaller, AreBest}
 use Rattle.ct_best.proofs.Orders.{AreLeast, IsTotalOn, least_are_one, least_of_listed, put_in_order}
 
@@ -52,7 +52,7 @@ best_list_exists i inst k b right =
     let sorted = put_in_order (IsSmaller i) (smaller_itself i) (smaller_chain i) (IsSolution i b) (solutions_total i b) listed only in (
       take k sorted.0,
       to_best i k b (take k sorted.0)
-      (least_of_listed (IsSmaller i) (IsSolution i b) k sorted.0 sorted.1 (λ x c. only x (sorted.2 x c)) (λ x s. sorted.3 x (all x s))),
+          (least_of_listed (IsSmaller i) (IsSolution i b) k sorted.0 sorted.1 (λ x c. only x (sorted.2 x c)) (λ x s. sorted.3 x (all x s))),
     )
   where
     -- the points of the fiber with no artificials, cut to n numbers

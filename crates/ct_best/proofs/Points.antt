@@ -1,6 +1,6 @@
 -- A solution's point that isn't the least is one move of the test list, taken backwards, above a lower one.
-use Rattle.std.proofs.Common.{ℕ, ◌+◌, ◌≤◌, ◌≡◌, List, ◌++◌, length, take, Contains, refl, sym, subst, ap, ◌∙◌, arith}
-use Rattle.ct_vectors.specs.Vectors.{total, add, subtract, zeros, Divides}
+use Rattle.std.proofs.Common.{ℕ, ◌+◌, ◌≤◌, ◌≡◌, List, length, take, Contains, sym, subst, ap, ◌∙◌, arith}
+use Rattle.ct_vectors.specs.Vectors.{total, add, subtract, Divides}
 use Rattle.ct_vectors.proofs.Sums.{length-add_same, length-subtract, subtract-add}
 use Rattle.ct_vectors.proofs.Divisors.{Divides-add, add-subtract}
 use Rattle.ct_order.specs.Order.{art_total_of}

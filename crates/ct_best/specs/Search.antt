@@ -1,5 +1,5 @@
 -- The search for the k least: one ordered list of points, closed under steps up.
-use Rattle.std.specs.Prelude.{ℕ, ◌+◌, ◌≤◌, ◌<◌, ◌≡◌, ◌⊎◌, List, [], length, get_or, take, All, AllPairs, Contains}
+use Rattle.std.specs.Prelude.{ℕ, ◌≤◌, ◌<◌, ◌≡◌, ◌⊎◌, List, [], length, get_or, take, All, AllPairs, Contains}
 use Rattle.ct_vectors.specs.Vectors.{add, subtract, Divides}
 use Rattle.ct_order.specs.Order.{art_total_of}
 use Rattle.ct_instance.specs.Instance.{Problem, column_count}

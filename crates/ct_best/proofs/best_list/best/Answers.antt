@@ -1,4 +1,4 @@
-use Rattle.std.proofs.Common.{◌≡◌, List, ℕ, [], map, take, Contains, sym, subst, ap, ◌∙◌}
+use Rattle.std.proofs.Common.{◌≡◌, ℕ, map, take, Contains, sym, subst, ap, ◌∙◌}
 use Rattle.ct_vectors.specs.Vectors.{total}
 use Rattle.ct_instance.specs.Instance.{Problem, column_count}
 use Rattle.ct_instance.specs.TestSet.{Binomial, test_list}

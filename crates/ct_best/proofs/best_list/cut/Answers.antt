@@ -1,4 +1,4 @@
-use Rattle.std.proofs.Common.{◌≡◌, ◌+◌, ◌++◌, List, ℕ, map, take, drop, length, set, sym, subst, ap, ◌∙◌, arith}
+use Rattle.std.proofs.Common.{take, set, ap, ◌∙◌, arith}
 use Rattle.std.proofs.lemmas.List.Edits.{map_over_more}
 use Rattle.ct_best.proofs.best_list.cut.Goals as goal
 

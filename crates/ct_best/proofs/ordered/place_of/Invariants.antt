@@ -1,4 +1,4 @@
-use Rattle.std.proofs.Common.{ℕ, ◌<◌, List, [], get_or}
+use Rattle.std.proofs.Common.{ℕ, ◌<◌, [], get_or}
 use Rattle.ct_instance.specs.Fiber.{IsBelow}
 use Rattle.ct_best.proofs.ordered.place_of.Given as goal
 

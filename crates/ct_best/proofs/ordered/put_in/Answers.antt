@@ -1,4 +1,4 @@
-use Rattle.std.proofs.Common.{◌≡◌, ◌<◌, ◌≤◌, ◌⊎◌, ℕ, List, [], length, get_or, take, All, true, false, IsTrue, sym, subst, ap, ap₂, ◌∙◌, refl, rules, true≢false, arith}
+use Rattle.std.proofs.Common.{◌≡◌, ◌<◌, ◌≤◌, ℕ, List, [], length, get_or, take, sym, subst, ap, ◌∙◌, true≢false}
 use Rattle.std.specs.List.{insert}
 use Rattle.ct_instance.specs.Fiber.{IsBelow}
 use Rattle.ct_best.specs.Search.{IsPutIn, IsReached}

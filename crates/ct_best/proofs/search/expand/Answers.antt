@@ -1,4 +1,4 @@
-use Rattle.std.proofs.Common.{◌≡◌, ◌+◌, ◌≤◌, ◌<◌, ℕ, List, length, true, false, sym, subst, ap, ◌∙◌, rules, true≢false, arith, get_or, []}
+use Rattle.std.proofs.Common.{◌+◌, ◌≤◌, sym, subst, ap, ◌∙◌, true≢false, arith}
 use Rattle.ct_vectors.specs.declared.limits.TheConstants.{GRADE_LIMIT}
 use Rattle.ct_instance.specs.Instance.{Problem, grade_of}
 use Rattle.ct_best.proofs.Frontier.{Expanding, Looks, expanding_up, expanding_grows, expanding_passes, solution_grade, frontier_turns}

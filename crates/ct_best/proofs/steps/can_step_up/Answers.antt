@@ -1,10 +1,8 @@
-use Rattle.std.proofs.Common.{◌≡◌, ℕ, List, true, false, IsTrue, sym, subst, ap, ◌∙◌, rules, true≢false}
-use Rattle.ct_vectors.specs.Vectors.{Divides, divides}
+use Rattle.std.proofs.Common.{◌≡◌, ℕ, List, sym, subst, ap, ◌∙◌, true≢false}
+use Rattle.ct_vectors.specs.Vectors.{divides}
 use Rattle.ct_vectors.proofs.Divisors.{Divides-from_test, test_from_Divides}
 use Rattle.ct_order.specs.Order.{art_total_of}
 use Rattle.ct_instance.specs.Instance.{column_count}
-use Rattle.ct_instance.specs.TestSet.{Binomial}
-use Rattle.ct_best.specs.Search.{CanStepUp}
 use Rattle.ct_best.proofs.steps.can_step_up.Goals as goal
 
 pub returns-then-divides : goal.returns-then-divides

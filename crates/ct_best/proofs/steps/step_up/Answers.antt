@@ -1,4 +1,4 @@
-use Rattle.std.proofs.Common.{◌≡◌, ◌<◌, ◌^◌, ℕ, List, All, true, IsTrue, sym, subst, ap, ap₂, ◌∙◌, rules}
+use Rattle.std.proofs.Common.{◌≡◌, ◌<◌, ◌^◌, ℕ, List, All, sym, subst, ap, ap₂, ◌∙◌}
 use Rattle.ct_vectors.specs.Vectors.{add, subtract, scale, Divides}
 use Rattle.ct_vectors.proofs.Sums.{scale-one}
 use Rattle.ct_instance.specs.Instance.{IsPoint}

@@ -4,4 +4,6 @@ pub mod Solutions
 pub mod Orders
 pub mod Plain
 pub mod FormAnswer
+pub mod Kept
+pub mod ZeroColumns
 mod Worked

@@ -1,11 +1,13 @@
 -- What holds of forms and their equality forms. Each statement is the contract of a function in the module `laws`.
-use Rattle.std.specs.Prelude.{ℕ, ℤ, ◌≡◌, ◌↔◌, List, length, take}
+use Rattle.std.specs.Prelude.{ℕ, ℤ, ◌≡◌, ◌↔◌, List, length, take, map, nat_eq, position}
 use Rattle.std.specs.declared.cmp.Ordering.TheVariants.{Less}
+use Rattle.ct_vectors.specs.Vectors.{total}
 use Rattle.ct_order.specs.Order.{cost_order}
 use Rattle.ct_instance.specs.Instance.{Problem, IsInstance}
 use Rattle.ct_instance.specs.Answer.{IsSolution, optimum, infeasible}
 use Rattle.ct_form.specs.Forms.{Form, IsFormSolution, form_costs_of}
-use Rattle.ct_form.specs.EqualityForms.{equal_of, right_for, form_answer_of, IsForm, plain_form}
+use Rattle.ct_form.specs.EqualityForms.{equal_columns, equal_of, right_for, form_answer_of, IsForm, plain_form}
+use Rattle.ct_form.specs.Kept.{form_in, free_zero_of}
 
 -- ---- solutions
 
@@ -55,3 +57,14 @@ pub record IsItself (i : Problem) : Type 0 where
 
 abbrev pub PlainIsItself : Type 0
 PlainIsItself = (i : Problem) → IsInstance i → IsItself i
+
+-- ---- what is kept of a form
+
+-- a form is read from its equality form
+abbrev pub FormIsInEqual : Type 0
+FormIsInEqual = (f : Form) → IsForm f → form_in f.rows (length f.columns) f.relations f.bounds (equal_of f) ≡ f
+
+-- the first zero column of the equality form is the least column that is zero and whose variable has no bound
+abbrev pub ZeroColumnIsFree : Type 0
+ZeroColumnIsFree =
+    (f : Form) → length f.bounds ≡ length f.columns → position (λ s. nat_eq s 0) (map total (equal_columns f)) ≡ free_zero_of f.columns f.bounds

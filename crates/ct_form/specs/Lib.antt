@@ -1,3 +1,4 @@
 pub mod Forms
 pub mod EqualityForms
+pub mod Kept
 pub mod Laws

@@ -1,6 +1,6 @@
 //! Laws of the definitions, as contracts of functions that do nothing.
 
-ghost use Rattle.ct_form.specs.Laws.{SolutionsAreCut, SolutionsAreExtended, AnswerIsLeastFormSolution, NoneIsInfeasible, PlainIsItself};
+ghost use Rattle.ct_form.specs.Laws.{SolutionsAreCut, SolutionsAreExtended, AnswerIsLeastFormSolution, NoneIsInfeasible, PlainIsItself, FormIsInEqual, ZeroColumnIsFree};
 
 /// The solutions of the equality form, cut to the form's columns, are the solutions of the form, each of one.
 pub fn equality_form_has_the_solutions()
@@ -17,4 +17,11 @@ pub fn answer_is_least_form_solution()
 /// The form of an instance has that instance as its equality form.
 pub fn plain_form_is_itself()
     ensures { PlainIsItself }
+{}
+
+/// A form is read from its equality form, whose first zero column is the least column of the form that is zero and whose
+/// variable has no bound.
+pub fn equality_form_keeps_the_form()
+    ensures form { FormIsInEqual }
+    ensures zero_column { ZeroColumnIsFree }
 {}

@@ -1,0 +1,4 @@
+mod Oldest
+mod Steps
+mod Kept
+mod Turning

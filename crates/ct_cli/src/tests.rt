@@ -1,10 +1,12 @@
 //! Runs on real files, with words and an output that a test gives.
 use super::*;
-use std::alloc::Global;
+use std::alloc::{Allocator, Global};
 use std::env::FillError;
 use std::fmt::Display;
+use std::fs::{Metadata, OpenOptions};
 use std::io::ErrorKind;
-use std::rt::Env;
+use std::rt::{Env, Files};
+use std::sync::atomic::{AtomicU64, Ordering};
 use std::test::Fail;
 use std::{fs, io};
 
@@ -14,11 +16,15 @@ const CUT: &str = "instance 1\nrows 1\ncolumns 2\nmatrix\n3";
 
 const ONE: &str = "sessions 1 phase 0 session solve 15 end";
 
+const EIGHT: &str = "sessions 1 phase 0 session solve 8 end";
+
 const OVER: &str = "sessions 1\nphase 0\nsession\nsolve 1000000000001\nend\n";
 
 const OTHER_SIZE: &str = "ledger 1\nsize 2 1\ngrade 0\nend\n";
 
 const REPORT: &str = "report 1\nphase 1\nsession 1\noptimum 9 at 0 3\nend\n";
+
+const WALKED: &str = "report 1\nphase 1\nsession 1\noptimum 5 at 1 1\nwalk 1*2 2*1\nlevel 9\nend\n";
 
 const USAGE: &str = "usage: ct COMMAND ARGUMENTS\n";
 
@@ -88,13 +94,14 @@ fn each_status_of_a_run_on_files(rt: HostRuntime) -> Result<(), Fail> {
         ("K", K),
         ("cut", CUT),
         ("S", ONE),
+        ("eight ", EIGHT),
         ("over", OVER),
         ("L", OTHER_SIZE),
     ] {
         fs::write(&rt, path, text)?;
     }
     let alloc = rt.alloc();
-    let runs: [(&[&[u8]], &str, u8); 15] = [
+    let runs: [(&[&[u8]], &str, u8); 21] = [
         (&[b"ct", b"answer", b"K", b"S"], REPORT, 0),
         (&[b"ct"], USAGE, 2),
         (&[b"ct", b"answer", b"K"], USAGE, 2),
@@ -126,6 +133,48 @@ fn each_status_of_a_run_on_files(rt: HostRuntime) -> Result<(), Fail> {
             "full 6\n",
             10,
         ),
+        (&[b"ct", b"answer", b"K", b"", b"S"], USAGE, 2),
+        (&[b"ct", b"answer", b"K", b"S", b"--moves", b"9"], REPORT, 0),
+        (
+            &[
+                b"ct",
+                b"serve",
+                b"K",
+                b"eight ",
+                b"--workers",
+                b"0",
+                b"--walks",
+                b"--levels",
+                b"--moves",
+                b"9",
+            ],
+            WALKED,
+            0,
+        ),
+        (
+            &[
+                b"ct",
+                b"serve",
+                b"K",
+                b"eight ",
+                b"--workers",
+                b"0",
+                b"--walks",
+                b"--levels",
+                b"--moves",
+                b"9",
+                b"S",
+            ],
+            USAGE,
+            2,
+        ),
+        (&[b"ct", b"answer", b"K", b"eight"], REPORT, 5),
+        // Nobody may read it.
+        (
+            &[b"ct", b"answer", b"/proc/sys/vm/compact_memory", b"S"],
+            USAGE,
+            5,
+        ),
     ];
     for (row, (words, text, code)) in runs.into_iter().enumerate() {
         let output = Wants {
@@ -138,8 +187,94 @@ fn each_status_of_a_run_on_files(rt: HostRuntime) -> Result<(), Fail> {
             "row {row}"
         );
     }
-    for path in ["K", "cut", "S", "over", "L"] {
+    for path in ["K", "cut", "S", "eight ", "over", "L"] {
         fs::remove_file(&rt, path)?;
     }
+    Ok(())
+}
+
+// The files of the file system, of which none is there when one is first opened.
+#[derive(Drop)]
+struct Late<'a, R> {
+    files: &'a R,
+    opened: AtomicU64,
+}
+
+fn none_here<T>() -> io::Result<T> {
+    Err(io::Error::from(ErrorKind::NotFound))
+}
+
+impl<'a, R: Files> Files for Late<'a, R> {
+    type File = R::File;
+
+    type Dir = R::Dir;
+
+    fn open_file(&self, how: &OpenOptions, path: &str) -> io::Result<R::File> {
+        if self.opened.fetch_or(1, Ordering::SeqCst) == 0 {
+            return none_here();
+        }
+        self.files.open_file(how, path)
+    }
+
+    fn open_dir(&self, _path: &str) -> io::Result<R::Dir> {
+        none_here()
+    }
+
+    fn metadata(&self, _path: &str) -> io::Result<Metadata> {
+        none_here()
+    }
+
+    fn symlink_metadata(&self, _path: &str) -> io::Result<Metadata> {
+        none_here()
+    }
+
+    fn copy(&self, _from: &str, _to: &str) -> io::Result<u64> {
+        none_here()
+    }
+
+    fn rename(&self, _from: &str, _to: &str) -> io::Result<()> {
+        none_here()
+    }
+
+    fn remove_file(&self, _path: &str) -> io::Result<()> {
+        none_here()
+    }
+
+    fn create_dir(&self, _path: &str) -> io::Result<()> {
+        none_here()
+    }
+
+    fn remove_dir(&self, _path: &str) -> io::Result<()> {
+        none_here()
+    }
+
+    fn remove_dir_all<B: Allocator>(&self, _alloc: B, _path: &str) -> io::Result<()> {
+        none_here()
+    }
+}
+
+// A file that comes late isn't asked for again.
+#[test]
+fn a_run_is_made_once(rt: HostRuntime) -> Result<(), Fail> {
+    fs::write(&rt, "late_K", K)?;
+    fs::write(&rt, "late_S", ONE)?;
+    let files = Late {
+        files: &rt,
+        opened: AtomicU64::new(0),
+    };
+    let alloc = rt.alloc();
+    let words: &[&[u8]] = &[b"ct", b"answer", b"late_K", b"late_S"];
+    let output = Wants {
+        text: REPORT.as_bytes(),
+    };
+    for code in [5, 0] {
+        let ended = exit_code(run_program(&rt, &Given { words, alloc }, &files, &output));
+        assert_eq!(rt;
+            format!(in alloc; "{ended:?}")?,
+            format!(in alloc; "{:?}", ExitCode::from(code))?
+        );
+    }
+    fs::remove_file(&rt, "late_K")?;
+    fs::remove_file(&rt, "late_S")?;
     Ok(())
 }

@@ -1,5 +1,5 @@
--- How far the moves of a book come that was completed from its beginning, and the greatest grade of phases.
-use Rattle.std.proofs.Common.{◌≡◌, ℕ, ◌+◌, ◌-◌, ◌<◌, max, List, length, get_or, take, map, sym, ap, subst, ◌∙◌}
+-- How far the moves of a completion from its beginning come, and the greatest grade of phases.
+use Rattle.std.proofs.Common.{◌≡◌, ℕ, ◌+◌, ◌-◌, ◌<◌, max, List, length, get_or, take, map, sym, ap, ◌∙◌}
 use Rattle.std.specs.Arc.{arc_value}
 use Rattle.std.proofs.lemmas.List.{map_push}
 use Rattle.ct_instance.specs.Instance.{Problem}
@@ -11,7 +11,7 @@ use Rattle.ct_version.specs.declared.pins.Helped.{Helped}
 use Rattle.ct_version.specs.declared.pins.FullMark.{FullMark}
 use Rattle.ct_version.specs.Editions.{Edition}
 use Rattle.ct_version.specs.Desks.{Place, IsFullMark}
-use Rattle.ct_book.specs.Books.{BookSeen, IsCompleted}
+use Rattle.ct_solo.specs.Seen.{SoloSeen, IsCompleted}
 use Rattle.ct_input.specs.declared.script.Phase.{Phase}
 use Rattle.ct_legal.specs.Cases.{Case}
 use Rattle.ct_legal.specs.Scripts.{phase_with_solves, greatest, grade_after}
@@ -25,16 +25,16 @@ use Rattle.ct_answer.proofs.ToldReports.{reach_helped, reach_marked, grade_told,
 abbrev pub list_of : Edition → List Binomial
 list_of v = version_list v.instance v.number
 
-pub extent_helped : (i : Problem) (limit g : ℕ) (c : BookSeen) (h : Helped) (moves : ℕ) → IsCompleted (opened i limit) g c h →
+pub extent_helped : (i : Problem) (limit top g : ℕ) (c : SoloSeen) (h : Helped) (moves : ℕ) → IsCompleted (opened i limit top) g c h →
     moves ≡ length (list_of (arc_value h.version)) → IsExtent i limit g (record { moves = moves; level = h.level })
-extent_helped i limit g c h moves done count =
-    let first = first_completed i limit g c h done in
-    let number_is : (arc_value h.version).number ≡ (c.state).number = ap (λ (e : Edition). e.number) done.version in
+extent_helped i limit top g c h moves done count =
+    let first = first_completed i limit top g c h done in
+    let number_is : (arc_value h.version).number ≡ c.number = ap (λ (e : Edition). e.number) done.version in
     record {
       level = reach_helped (record { instance = i; limit = limit }) g h done.help;
       number = (arc_value h.version).number;
       version = done.help.version.version;
-      same = ap (level_of i) (number_is ∙ (first_version i g (c.state).number).1 first) ∙ sym done.help.level;
+      same = ap (level_of i) (number_is ∙ (first_version i g c.number).1 first) ∙ sym done.help.level;
       moves = count ∙ ap (λ p. length (version_list p (arc_value h.version).number)) done.help.version.instance;
     }
 

@@ -1,16 +1,11 @@
 -- What is told with each request taken as a solve is a legal report.
-use Rattle.std.proofs.Common.{ℕ, ◌+◌, ◌-◌, ◌*◌, ◌<◌, ◌≤◌, ◌≡◌, max, Bool, true, false, cond, List, [], ◌∷◌, ◌++◌, length, get_or, take, map, All, Option, Some, None, refl, sym, ap, ap₂, subst, ◌∙◌, arith}
+use Rattle.std.proofs.Common.{ℕ, ◌+◌, ◌-◌, ◌*◌, ◌<◌, ◌≤◌, ◌≡◌, max, List, [], ◌∷◌, ◌++◌, length, get_or, take, map, All, refl, sym, ap, ap₂, subst, ◌∙◌, arith}
 use Rattle.std.specs.List.{flat_map}
 use Rattle.std.proofs.lemmas.List.{map_push}
 use Rattle.ct_vectors.specs.declared.limits.TheConstants.{ROW_LIMIT, RIGHT_LIMIT, GRADE_LIMIT}
 use Rattle.ct_vectors.specs.Vectors.{total}
 use Rattle.ct_vectors.proofs.Sums.{total-limit}
-use Rattle.ct_instance.specs.Instance.{Problem, IsInstance, start_of}
-use Rattle.ct_instance.specs.Fiber.{least_of}
-use Rattle.ct_instance.specs.Answer.{Outcome}
-use Rattle.ct_instance.specs.TestSet.{test_list}
-use Rattle.ct_instance.specs.Walk.{IsWalk}
-use Rattle.ct_instance.specs.Reach.{full_grade_up_to, reach_of}
+use Rattle.ct_instance.specs.Reach.{reach_of}
 use Rattle.ct_levels.proofs.Reach.{reach_when_full, reach_when_room}
 use Rattle.ct_version.specs.declared.pins.Helped.{Helped}
 use Rattle.ct_version.specs.declared.pins.FullMark.{FullMark}
@@ -18,8 +13,6 @@ use Rattle.ct_version.specs.Editions.{level_seen}
 use Rattle.ct_version.specs.Desks.{Place, IsHelp, IsFullMark}
 use Rattle.ct_instance.specs.Versions.{upto}
 use Rattle.ct_session.specs.declared.lines.Line.{Line}
-use Rattle.ct_session.specs.declared.lines.Line.TheVariants.{Full}
-use Rattle.ct_session.specs.Lines.{IsWalkShown, IsAnsweredLine, IsFullOrAnswered, IsSolveLine}
 use Rattle.ct_input.specs.declared.script.Request.{Request}
 use Rattle.ct_input.specs.declared.script.Request.TheVariants.{Ask, Solve}
 use Rattle.ct_input.specs.declared.script.Phase.{Phase}

@@ -10,7 +10,7 @@ ghost use Rattle.ct_legal.specs.Legal.{IsLevelShown, AreLegalPhases, IsLegalAnsw
 ghost use Rattle.std.specs.Prelude.{map};
 ghost use Rattle.ct_answer.specs.Told.{case_at, AreToldLines, AreToldSessions, IsToldPhase};
 
-use crate::grades::raised;
+use crate::grades::{grade_of, raised};
 use crate::options::Options;
 use crate::solver::Solver;
 use ct_input::{Phase, Request, Script};
@@ -114,10 +114,10 @@ pub fn phases_of(
     Ok(Seq::from_vec(told))
 }
 
-/// Answers a script, each ask as a solve. One book is completed up to the sum of each request in turn, and with levels up
-/// to the target of each phase at its end, or up to the limit on the number of moves; so the script's answers cost one
-/// completion for its greatest sum, and a walk each. It takes the memory of that book and of the report, and with walks 16
-/// bytes a step.
+/// Answers a script, each ask as a solve. One completion goes up to the sum of each request in turn, and with levels up to
+/// the target of each phase at its end, or up to the limit on the number of moves; so the script's answers cost one
+/// completion for its greatest sum, and a walk each. It takes the memory of that completion and of the report, and with
+/// walks 16 bytes a step.
 pub fn answer(
     alloc: Global,
     inst: Arc<Instance>,
@@ -129,7 +129,8 @@ pub fn answer(
     requires script { IsScript (arc_value inst).rows script.now }
     ensures { IfOk result (IsLegalAnswered (plain_case (arc_value inst) options.limit options.walks options.levels) script.now) }
 {
-    let mut solver = Solver::open(alloc, inst, options.limit)?;
+    let top = grade_of(inst.rows(), script.phases.as_slice());
+    let mut solver = Solver::open(alloc, inst, options.limit, top)?;
     let phases = phases_of(alloc, &mut solver, script.phases.as_slice(), options)?;
     Ok(Report { phases })
 }

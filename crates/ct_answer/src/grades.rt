@@ -1,9 +1,12 @@
 //! The greatest grade that a script works for.
-ghost use Rattle.std.specs.Prelude.{◌≡◌, ◌≤◌, max, All};
+ghost use Rattle.std.specs.Prelude.{◌≡◌, ◌≤◌, max, map, All};
 ghost use Rattle.ct_vectors.specs.declared.limits.TheConstants.{ROW_LIMIT, GRADE_LIMIT};
 ghost use Rattle.ct_input.specs.Script.{IsRequest, IsPhase};
-ghost use Rattle.ct_legal.specs.Scripts.{greatest};
-ghost use Rattle.ct_answer.specs.Told.{sums_of, sums_in};
+ghost use Rattle.ct_version.specs.Desks.{Place};
+ghost use Rattle.ct_legal.specs.Scripts.{greatest, phase_with_solves};
+ghost use Rattle.ct_answer.specs.declared.options.Options.{Options};
+ghost use Rattle.ct_answer.specs.Told.{case_at, sums_of, sums_in};
+ghost use Rattle.ct_answer.specs.Extents.{grade_upto};
 
 use ct_input::{Phase, Request};
 use ct_order::sum;
@@ -48,4 +51,18 @@ pub fn raised(grade: u64, rows: usize, phase: &Phase) -> u64
     ensures limit { result ≤ GRADE_LIMIT }
 {
     raised_in(grade.max(phase.target), rows, phase.sessions.as_slice())
+}
+
+/// The greatest grade that the phases work for, for an instance with so many rows.
+pub fn grade_of(rows: usize, phases: &[Phase]) -> u64
+    requires rows { rows ≤ ROW_LIMIT }
+    requires phases { All (IsPhase rows) phases.now }
+    ensures grade { (p : Place) (o : Options) → result ≡ grade_upto (case_at p o) 0 (map phase_with_solves phases.now) }
+    ensures limit { result ≤ GRADE_LIMIT }
+{
+    let mut grade = 0;
+    for phase in phases {
+        grade = raised(grade, rows, phase);
+    }
+    grade
 }

@@ -1,6 +1,6 @@
 //! Answering a script in one thread.
 //!
-//! One book serves the whole script. It is completed up to what each request needs, and up to what each level needs where
+//! One completion serves the whole script. It goes up to what each request needs, and up to what each level needs where
 //! levels are asked for, and no further; a request that its version covers costs one walk. What comes out is the one legal
 //! report of the script with each ask taken as a solve.
 #![tactic(auto)]

@@ -1,5 +1,5 @@
-//! A book that one thread completes as far as requests need.
-ghost use Rattle.std.specs.Prelude.{◌≡◌, ◌≤◌, All, IfOk, Some, None, cond};
+//! A completion that goes as far as requests need.
+ghost use Rattle.std.specs.Prelude.{◌≡◌, ◌≤◌, All, IfOk, IfErr, Some, None, cond};
 ghost use Rattle.ct_vectors.specs.declared.limits.TheConstants.{ROW_LIMIT, RIGHT_LIMIT, GRADE_LIMIT, MOVE_LIMIT};
 ghost use Rattle.ct_vectors.specs.Vectors.{total};
 ghost use Rattle.ct_instance.specs.Instance.{IsRight};
@@ -8,49 +8,55 @@ ghost use Rattle.ct_instance.specs.Versions.{Covers, level_of};
 ghost use Rattle.ct_instance.specs.Reach.{reach_of};
 ghost use Rattle.ct_version.specs.Editions.{level_seen};
 ghost use Rattle.ct_session.specs.Lines.{IsAnsweredLine, IsSolveLine};
+ghost use Rattle.ct_solo.specs.Seen.{place_of};
 ghost use Rattle.ct_answer.specs.Extents.{IsExtent};
 
 use crate::extent::Extent;
-use ct_book::Book;
 use ct_instance::Instance;
 use ct_order::sum;
 use ct_point::Seq;
 use ct_session::Line;
-use ct_version::{Answered, AskStop, Finished, Stop, Version};
+use ct_solo::Solo;
+use ct_version::{Answered, AskStop, Finished, Helped, Stop, Version};
 use ct_walk::Walk;
 use std::alloc::{AllocError, Global};
 use std::marker::Model;
 use std::sync::Arc;
 
-/// A book of one pass, seen as its instance and limit, which never change.
+/// A completion for one caller, seen as its instance and limit, which never change.
 #[derive(Drop)]
 pub struct Solver {
-    book: Book,
+    solo: Solo,
 }
 
 impl Model for Solver {
-    ghost use Rattle.std.specs.Prelude.{◌≡◌};
     ghost use Rattle.ct_version.specs.Desks.{Place};
-    ghost use Rattle.ct_book.specs.Books.{place_of};
+    ghost use Rattle.ct_solo.specs.Seen.{place_of};
 
     ghost Value = { Place };
 
-    ghost view = { λ s. place_of s.book };
-
-    ghost invariant = { λ s. (s.book).passes ≡ 1 };
+    ghost view = { λ s. place_of s.solo };
 }
 
 impl Solver {
     ghost use Rattle.std.specs.Arc.{arc_value};
+    ghost use Rattle.ct_version.specs.Desks.{IsHelp, IsStop};
 
-    /// A solver with no moves yet, linear in the columns.
-    pub fn open(alloc: Global, inst: Arc<Instance>, limit: u32) -> Result<Solver, AllocError>
+    /// A solver with no moves yet, linear in the columns. Up to the greatest grade `top` each request goes on from where
+    /// the one before it came to; one past it starts anew.
+    pub fn open(
+        alloc: Global,
+        inst: Arc<Instance>,
+        limit: u32,
+        top: u64,
+    ) -> Result<Solver, AllocError>
         requires some { 1 ≤ limit }
         requires most { limit ≤ MOVE_LIMIT }
+        requires top { top ≤ GRADE_LIMIT }
         ensures { IfOk result (λ s. s ≡ record { instance = arc_value inst; limit = limit }) }
     {
-        let book = Book::open(alloc, inst, limit, 1)?;
-        Ok(Solver { book })
+        let solo = Solo::open(alloc, inst, limit, top)?;
+        Ok(Solver { solo })
     }
 
     /// A solver that has its moves for a grade, or up to the limit on their number, with how far they come.
@@ -66,20 +72,36 @@ impl Solver {
         ensures place { IfOk result (λ r. r.0 ≡ record { instance = arc_value inst; limit = limit }) }
         ensures extent { IfOk result (λ r. IsExtent (arc_value inst) limit grade r.1) }
     {
-        let mut book = Book::open(alloc, inst, limit, 1)?;
-        match book.complete(alloc, 0, grade) {
+        let mut solo = Solo::open(alloc, inst, limit, grade)?;
+        match solo.complete(alloc, grade) {
             Ok(helped) => {
                 let moves = helped.version.moves().len();
                 let level = helped.level;
-                Ok((Solver { book }, Extent { moves, level }))
+                Ok((Solver { solo }, Extent { moves, level }))
             }
             Err(Stop::Full(mark)) => {
                 let moves = mark.version.moves().len();
                 let level = Finished::Upto(mark.grade.saturating_sub(1));
-                Ok((Solver { book }, Extent { moves, level }))
+                Ok((Solver { solo }, Extent { moves, level }))
             }
             Err(Stop::Memory) => Err(AllocError),
         }
+    }
+
+    // Help up to the grade. Where that is past the greatest grade so far, the completion starts anew.
+    fn help(&mut self, alloc: Global, grade: u64) -> Result<Helped, Stop>
+        requires { grade ≤ GRADE_LIMIT }
+        ensures place { self.new ≡ self.old }
+        ensures ok { IfOk result (IsHelp self.old grade) }
+        ensures stop { IfErr result (IsStop self.old grade) }
+    {
+        if self.solo.top() < grade {
+            match anew(alloc, &self.solo, grade) {
+                Ok(solo) => self.solo = solo,
+                Err(_) => return Err(Stop::Memory),
+            }
+        }
+        self.solo.complete(alloc, grade)
     }
 
     /// The number of rows of the instance.
@@ -87,11 +109,11 @@ impl Solver {
         ensures rows { result ≡ self.now.instance.rows }
         ensures limit { result ≤ ROW_LIMIT }
     {
-        self.book.version().moves().instance().rows()
+        self.solo.version().moves().instance().rows()
     }
 
-    /// The line of a solve of b. It completes the book up to the sum of b, where its version doesn't cover that already,
-    /// and walks once.
+    /// The line of a solve of b. It completes up to the sum of b, where the version doesn't cover that already, and walks
+    /// once.
     pub fn line(&mut self, alloc: Global, b: &[u64], walks: bool) -> Result<Line, AllocError>
         requires right { IsRight self.old.instance b.now }
         requires limit { All (λ x. x ≤ RIGHT_LIMIT) b.now }
@@ -100,26 +122,36 @@ impl Solver {
     {
         // Called for what it ensures: the rows of an instance are within their limit.
         let _rows = self.rows();
-        match self.book.complete(alloc, 0, sum(b)) {
+        match self.help(alloc, sum(b)) {
             Ok(helped) => answered(alloc, &helped.version, b, walks),
             Err(Stop::Full(mark)) => Ok(Line::Full { grade: mark.grade }),
             Err(Stop::Memory) => Err(AllocError),
         }
     }
 
-    /// How far a completion for this grade comes. It completes the book so far.
+    /// How far a completion for this grade comes. It completes so far.
     #[tactic(auto, using(crate::proofs::ToldReports::reach_helped, crate::proofs::ToldReports::reach_marked))]
     pub fn level(&mut self, alloc: Global, grade: u64) -> Result<Finished, AllocError>
         requires { grade ≤ GRADE_LIMIT }
         ensures place { self.new ≡ self.old }
         ensures level { IfOk result (λ f. level_seen f ≡ reach_of self.old.instance self.old.limit grade) }
     {
-        match self.book.complete(alloc, 0, grade) {
+        match self.help(alloc, grade) {
             Ok(helped) => Ok(helped.level),
             Err(Stop::Full(mark)) => Ok(Finished::Upto(mark.grade.saturating_sub(1))),
             Err(Stop::Memory) => Err(AllocError),
         }
     }
+}
+
+// A completion of the same place from the beginning, up to another greatest grade.
+fn anew(alloc: Global, solo: &Solo, top: u64) -> Result<Solo, AllocError>
+    requires { top ≤ GRADE_LIMIT }
+    ensures place { IfOk result (λ s. place_of s ≡ place_of solo.now) }
+    ensures top { IfOk result (λ s. s.top ≡ top) }
+{
+    let inst = Arc::try_clone(solo.version().moves().instance())?;
+    Solo::open(alloc, inst, solo.limit(), top)
 }
 
 // The line of b by a version that covers its sum.

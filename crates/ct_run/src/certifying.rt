@@ -12,10 +12,10 @@ ghost use Rattle.ct_run.specs.Stopping.{Fits};
 
 use crate::ending::{Ending, full_ending};
 use crate::status::Status;
-use ct_book::Book;
 use ct_checker::certify;
 use ct_instance::Instance;
 use ct_point::Seq;
+use ct_solo::Solo;
 use ct_version::{Stop, Version};
 use std::alloc::{AllocError, Global};
 use std::sync::Arc;
@@ -35,8 +35,8 @@ fn ledger_ending(alloc: Global, version: &Version, grade: u64) -> Result<Ending,
     })
 }
 
-/// The ending of `certify`. A book is completed up to the grade, or to where its list would have more moves than the limit.
-/// Beside the book it takes the memory of the ledger, and then that of its text.
+/// The ending of `certify`. The test set is completed up to the grade, or to where its list would have more moves than the
+/// limit. Beside the completion it takes the memory of the ledger, and then that of its text.
 pub fn certify_ending(
     alloc: Global,
     inst: Arc<Instance>,
@@ -49,8 +49,8 @@ pub fn certify_ending(
 {
     // for what an instance keeps
     let _rows = inst.rows();
-    let mut book = Book::open(alloc, inst, moves, 1)?;
-    match book.complete(alloc, 0, grade) {
+    let mut solo = Solo::open(alloc, inst, moves, grade)?;
+    match solo.complete(alloc, grade) {
         Ok(helped) => ledger_ending(alloc, &helped.version, grade),
         Err(Stop::Full(mark)) => full_ending(alloc, mark.grade),
         Err(Stop::Memory) => Err(AllocError),

@@ -1,4 +1,4 @@
-use Rattle.std.proofs.Common.{List, ◌+◌, ◌<◌, length, take, ap, subst, sym, ◌∙◌, arith}
+use Rattle.std.proofs.Common.{List, ◌+◌, ◌<◌, length, take, subst, sym, ◌∙◌, arith}
 use Rattle.ct_session.specs.declared.lines.Line.{Line}
 use Rattle.ct_answer.specs.Told.{AreToldLines, AreToldSessions}
 use Rattle.ct_answer.proofs.Pairing.{each_more}

@@ -1,9 +1,7 @@
-use Rattle.std.proofs.Common.{ℕ, ◌+◌, ◌<◌, ◌≤◌, ◌≡◌, max, length, take, ap, ◌∙◌, arith}
+use Rattle.std.proofs.Common.{◌<◌, ◌≤◌, ◌≡◌, max, length, ap, ◌∙◌, arith}
 use Rattle.ct_vectors.specs.declared.limits.TheConstants.{GRADE_LIMIT}
 use Rattle.ct_vectors.specs.Vectors.{total}
 use Rattle.ct_input.specs.Script.{right_of, IsRequest}
-use Rattle.ct_legal.specs.Scripts.{greatest}
-use Rattle.ct_answer.specs.Told.{sums_of}
 use Rattle.ct_answer.proofs.Pairing.{at_item, greatest_more}
 use Rattle.ct_answer.proofs.ToldReports.{request_total}
 use Rattle.ct_answer.proofs.grades.raised_by.Goals as goal

@@ -10,8 +10,8 @@ sum-requires c =
     let most : total c.args.b.now ≤ GRADE_LIMIT = right_sum c.args.self.now.instance.rows c.args.b.now rows c.requires.right c.requires.limit in
     omega arith
 
-pub complete-requires-clause-target : goal.complete-requires-clause-target
-complete-requires-clause-target c =
+pub help-requires : goal.help-requires
+help-requires c =
     let rows : c.args.self.now.instance.rows ≤ ROW_LIMIT = subst (λ n. n ≤ ROW_LIMIT) c.rows-rows.ensures.rows c.rows-rows.ensures.limit in
     let most : total c.args.b.now ≤ GRADE_LIMIT = right_sum c.args.self.now.instance.rows c.args.b.now rows c.requires.right c.requires.limit in
     omega (arith, c.sum.ensures)

@@ -1,6 +1,6 @@
 use Rattle.std.proofs.Common.{◌<◌, length, arith}
 use Rattle.ct_answer.proofs.Extents.{grade_more}
-use Rattle.ct_answer.proofs.counting.grade_of.Goals as goal
+use Rattle.ct_answer.proofs.grades.grade_of.Goals as goal
 
 pub loop-phase-preserved : goal.loop-phase-preserved
 loop-phase-preserved c =

@@ -5,7 +5,7 @@ use Rattle.ct_legal.specs.Scripts.{phase_with_solves}
 use Rattle.ct_answer.specs.declared.options.Options.{Options}
 use Rattle.ct_answer.specs.Told.{case_at}
 use Rattle.ct_answer.specs.Extents.{grade_upto}
-use Rattle.ct_answer.proofs.counting.grade_of.Given as goal
+use Rattle.ct_answer.proofs.grades.grade_of.Given as goal
 
 abbrev pub invariant-loop-phase : goal.invariant-loop-phase
 invariant-loop-phase l = record {

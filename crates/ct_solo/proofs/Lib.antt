@@ -1,0 +1,8 @@
+pub mod LevelsSoFar
+pub mod AgendaFacts
+pub mod Looks
+pub mod Fillings
+pub mod KeptJobs
+pub mod Brought
+pub mod Keeping
+pub mod Runs

@@ -1,0 +1,11 @@
+use Rattle.std.proofs.Common.{take}
+use Rattle.ct_instance.specs.Instance.{IsPoint}
+use Rattle.ct_solo.specs.Leaving.{LeavesPoints}
+use Rattle.ct_solo.proofs.reducing.points_left.Given as goal
+
+abbrev pub invariant-loop-job : goal.invariant-loop-job
+invariant-loop-job l = record {
+  left : LeavesPoints l.moves.instance l.moves.moves (take l.job-index l.jobs) l.points.items;
+  first : IsPoint l.moves.instance l.first;
+  second : IsPoint l.moves.instance l.second;
+}

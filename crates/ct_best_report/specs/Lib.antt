@@ -1,0 +1,3 @@
+pub mod BestReport
+pub mod BestText
+pub mod Found

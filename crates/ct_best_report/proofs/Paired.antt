@@ -1,19 +1,19 @@
 -- Solutions with their costs, and answers beside their requests.
-use Rattle.std.proofs.Common.{◌≡◌, ℕ, ℤ, ◌+◌, ◌<◌, ◌≤◌, List, [], ◌∷◌, ◌++◌, length, get_or, take, drop, map, replicate, All, false, refl, sym, subst, ap, ◌∙◌, arith, add-one}
+use Rattle.std.proofs.Common.{◌≡◌, ℕ, ◌+◌, ◌<◌, ◌≤◌, List, [], ◌∷◌, ◌++◌, length, get_or, take, drop, map, replicate, All, false, sym, subst, ap, ◌∙◌, arith}
 use Rattle.std.specs.List.{AllZip}
 use Rattle.std.proofs.lemmas.List.{take-take, take_at, take_more}
-use Rattle.std.proofs.lemmas.List.Elements.{All-take, All-append, All-drop, All-replicate, All-weaker}
+use Rattle.std.proofs.lemmas.List.Elements.{All-take, All-append, All-drop, All-replicate}
 use Rattle.ct_vectors.specs.Vectors.{total, zeros}
 use Rattle.ct_vectors.specs.declared.limits.TheConstants.{GRADE_LIMIT, JOB_GRADE_LIMIT}
 use Rattle.ct_order.specs.Order.{cost_of}
-use Rattle.ct_instance.specs.Instance.{Problem, IsInstance, IsRight, column_count}
+use Rattle.ct_instance.specs.Instance.{Problem, IsInstance, column_count}
 use Rattle.ct_instance.specs.Answer.{IsSolution, costs_of}
 use Rattle.ct_instance.proofs.Answer.{solution_in_fiber}
 use Rattle.ct_instance.proofs.Points.{costs_of-take, right-total}
 use Rattle.ct_best.proofs.Backwards.{small_coordinates}
 use Rattle.ct_legal.specs.Cases.{Case, plain_case}
 use Rattle.ct_version.specs.Desks.{Place}
-use Rattle.ct_best.specs.Best.{point_of, AreBest}
+use Rattle.ct_best.specs.Best.{point_of}
 use Rattle.ct_best_report.specs.BestReport.{IsAsked}
 use Rattle.ct_instance.specs.Instance.{grade_of}
 use Rattle.std.proofs.lemmas.List.{get_or_append_left, length-append}

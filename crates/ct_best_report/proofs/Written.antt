@@ -1,5 +1,5 @@
 -- The lines of the text as they are written piece by piece, and the requests as they are listed.
-use Rattle.std.proofs.Common.{◌≡◌, ℕ, ℤ, ◌+◌, ◌<◌, List, [], ◌∷◌, ◌++◌, length, get_or, take, drop, map, decimal, codes, refl, sym, ap, ap₂, ◌∙◌, arith, append_assoc, append-nil, suc}
+use Rattle.std.proofs.Common.{◌≡◌, ℕ, ℤ, ◌+◌, ◌<◌, List, [], ◌∷◌, ◌++◌, length, get_or, take, map, decimal, codes, sym, ap, ◌∙◌, arith, append_assoc, append-nil, suc}
 use Rattle.std.specs.List.{flat_map}
 use Rattle.std.specs.Fmt.{signed_decimal}
 use Rattle.std.proofs.lemmas.List.{take_more, length-take-le, map-append, flat_map_more}
@@ -8,7 +8,7 @@ use Rattle.ct_lines.proofs.Printed.{line_written, joined_five, spaced-between}
 use Rattle.ct_report.proofs.Written.{text_then}
 use Rattle.ct_best_report.specs.declared.reports.Solution.{Solution}
 use Rattle.ct_best_report.specs.declared.reports.BestAnswer.{BestAnswer}
-use Rattle.ct_best_report.specs.BestText.{solution_words, answer_lines, answers_lines, title_words, best_text}
+use Rattle.ct_best_report.specs.BestText.{solution_words, answer_lines, answers_lines, best_text}
 
 pub parts_written : (out : List ℕ) (first : ℤ) (others : List ℤ) (point : List ℕ) →
     ((((out ++ signed_decimal first) ++ spaced (map signed_decimal others)) ++ codes " at") ++ spaced (map decimal point)) ++ codes "\n" ≡

@@ -1,11 +1,10 @@
 -- What is told of the least solutions of each request.
-use Rattle.std.specs.Prelude.{ℕ, ◌≡◌, ◌≤◌, List, length, map, All, Some, None}
+use Rattle.std.specs.Prelude.{ℕ, ◌≡◌, ◌≤◌, List, map, All, Some, None}
 use Rattle.std.specs.List.{flat_map, AllZip}
 use Rattle.ct_vectors.specs.declared.limits.TheConstants.{RIGHT_LIMIT}
 use Rattle.ct_instance.specs.Instance.{Problem, IsRight}
 use Rattle.ct_instance.specs.Answer.{costs_of}
 use Rattle.ct_instance.specs.Reach.{full_grade_up_to}
-use Rattle.ct_input.specs.declared.script.Phase.{Phase}
 use Rattle.ct_input.specs.declared.script.Script.{Script}
 use Rattle.ct_input.specs.Script.{right_of}
 use Rattle.ct_legal.specs.Cases.{Case, sum_of}

@@ -1,4 +1,4 @@
-use Rattle.std.proofs.Common.{◌≡◌, ◌+◌, ◌++◌, ◌≤◌, ℕ, ℤ, List, map, take, drop, replicate, All, sym, subst, ap, ap₂, ◌∙◌, rules}
+use Rattle.std.proofs.Common.{◌≡◌, ◌+◌, ◌++◌, ◌≤◌, ℕ, ℤ, List, map, take, drop, replicate, All, sym, subst, ap, ap₂, ◌∙◌}
 use Rattle.ct_vectors.specs.declared.limits.TheConstants.{JOB_GRADE_LIMIT}
 use Rattle.ct_order.specs.Order.{cost_of}
 use Rattle.ct_instance.specs.Instance.{column_count}

@@ -1,4 +1,4 @@
-use Rattle.std.proofs.Common.{◌≡◌, ◌++◌, map, take}
+use Rattle.std.proofs.Common.{◌≡◌, map, take}
 use Rattle.std.specs.List.{flat_map}
 use Rattle.ct_input.specs.Script.{right_of}
 use Rattle.ct_best_report.proofs.rights.rights_of.Given as goal

@@ -1,11 +1,10 @@
-use Rattle.std.proofs.Common.{◌≡◌, ℕ, ◌+◌, ◌<◌, ◌≤◌, List, [], length, get_or, take, map, sym, subst, ap, ◌∙◌, arith, rules, Bor}
+use Rattle.std.proofs.Common.{◌+◌, ◌<◌, [], length, take, map, sym, subst, ap, ◌∙◌, arith}
 use Rattle.std.specs.Arc.{arc_value}
 use Rattle.std.specs.List.{AllZip}
 use Rattle.std.proofs.lemmas.List.{take_all, get_or_default, length-map}
 use Rattle.ct_instance.specs.Instance.{Problem}
 use Rattle.ct_version.specs.Desks.{Place}
 use Rattle.ct_book.specs.Books.{place_of}
-use Rattle.ct_best_report.specs.declared.reports.BestAnswer.{BestAnswer}
 use Rattle.ct_best_report.specs.BestReport.{IsAsked, IsBestAnswer}
 use Rattle.ct_best_report.proofs.Paired.{case_in, zip_more}
 use Rattle.ct_best_report.proofs.telling.best_report.Goals as goal

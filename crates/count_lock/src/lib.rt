@@ -17,8 +17,6 @@ mod note;
 mod pass;
 mod rule;
 mod table;
-#[cfg(test)]
-mod tests;
 
 pub use counted::Counted;
 pub use lock::CountLock;

@@ -23,6 +23,3 @@ pub use ct_completion::{Act, Entry};
 pub use outcomes::{Committed, Next, Published, Step};
 pub use remainders::Remainder;
 pub use tasks::Task;
-
-#[cfg(test)]
-mod tests;

@@ -12,8 +12,6 @@ pub mod laws;
 mod ledger_entries;
 mod ledger_moves;
 mod stops;
-#[cfg(test)]
-mod tests;
 mod verdicts;
 
 pub use certifying::certify;

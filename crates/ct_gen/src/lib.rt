@@ -13,6 +13,3 @@ mod tally;
 pub use making::made;
 pub use summary::Summary;
 pub use tally::Tally;
-
-#[cfg(test)]
-mod tests;

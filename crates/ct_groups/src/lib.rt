@@ -7,7 +7,5 @@
 mod finding;
 mod least;
 mod pairs;
-#[cfg(test)]
-mod tests;
 
 pub use finding::new_moves;

@@ -19,8 +19,6 @@ mod opening;
 mod passes;
 mod pinning;
 mod stepping;
-#[cfg(test)]
-mod tests;
 
 pub use benches::HostBench;
 pub use closing::Closed;

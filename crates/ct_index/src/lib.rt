@@ -18,6 +18,3 @@ pub use block::{BLOCK_SIZE, HeadBlock};
 pub use headed::HasHead;
 pub use index::HeadIndex;
 pub use places::Places;
-
-#[cfg(test)]
-mod tests;

@@ -27,6 +27,3 @@ pub use print::push_fault;
 pub use reader::Reader;
 pub use script::{Phase, Request, Script};
 pub use sessions::read_sessions;
-
-#[cfg(test)]
-mod tests;

@@ -12,8 +12,6 @@ pub mod laws;
 mod making;
 mod refusals;
 mod sums;
-#[cfg(test)]
-mod tests;
 
 pub use instances::Instance;
 pub use jobs::Job;

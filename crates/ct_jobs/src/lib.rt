@@ -24,6 +24,3 @@ pub use buckets::Buckets;
 pub use critical::{coprime, ends, ends_into, job_grade};
 pub use graded::GradedJob;
 pub use reducing::reduce_job;
-
-#[cfg(test)]
-mod tests;

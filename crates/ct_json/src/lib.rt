@@ -16,6 +16,3 @@ mod shape;
 mod values;
 
 pub use files::{is_json, read_instance_json, read_sessions_json};
-
-#[cfg(test)]
-mod tests;

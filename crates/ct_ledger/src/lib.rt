@@ -11,8 +11,6 @@ mod ledgers;
 mod print;
 mod reading;
 mod stage;
-#[cfg(test)]
-mod tests;
 
 pub use ct_lines::TextStop as LedgerStop;
 pub use entries::LedgerEntry;

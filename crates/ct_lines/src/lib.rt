@@ -16,6 +16,3 @@ pub use print::{push_number, push_numbers, push_signeds, push_walk};
 pub use reader::{LineReader, read_text};
 pub use stop::{LineStop, TextStop};
 pub use words::Words;
-
-#[cfg(test)]
-mod tests;

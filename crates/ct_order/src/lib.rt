@@ -9,8 +9,6 @@ mod comparison;
 mod cost_list;
 mod costs;
 pub mod laws;
-#[cfg(test)]
-mod tests;
 
 pub use comparison::{art_total, compare, cost, costs_of, sum};
 pub use cost_list::CostList;

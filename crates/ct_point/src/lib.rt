@@ -8,8 +8,6 @@
 mod points;
 mod sequence;
 mod slices;
-#[cfg(test)]
-mod tests;
 
 pub use points::Point;
 pub use sequence::Seq;

@@ -12,6 +12,3 @@ mod stage;
 
 pub use ct_lines::TextStop as ReportStop;
 pub use reports::{PhaseReport, Report};
-
-#[cfg(test)]
-mod tests;

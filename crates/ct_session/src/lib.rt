@@ -14,6 +14,3 @@ mod stops;
 pub use lines::Line;
 pub use sessions::Session;
 pub use stops::SolveStop;
-
-#[cfg(test)]
-mod tests;

@@ -18,6 +18,3 @@ pub use pieces::Pieces;
 pub use place::Place;
 pub use print::{push_natural, push_signed};
 pub use token::{Token, Tokens};
-
-#[cfg(test)]
-mod tests;

@@ -23,6 +23,3 @@ pub use gates::{Gate, NoGate};
 pub use pins::{FullMark, Helped, Pin, Stop};
 pub use stops::{AskStop, NotYet};
 pub use versions::Version;
-
-#[cfg(test)]
-mod tests;

@@ -25,8 +25,3 @@ pub use move_list::Moves;
 pub use moves::Move;
 pub use walking::{follow, walk, walk_end};
 pub use walks::Walk;
-
-#[cfg(test)]
-mod long_lists;
-#[cfg(test)]
-mod tests;

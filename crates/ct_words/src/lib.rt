@@ -9,8 +9,6 @@ mod parts;
 mod role;
 mod said;
 mod table;
-#[cfg(test)]
-mod tests;
 
 pub use role::Given;
 pub use said::{Place, Said, said_by, said_in};

@@ -19,8 +19,6 @@ mod pass;
 mod rule;
 mod stops;
 mod table;
-#[cfg(test)]
-mod tests;
 
 pub use cell::TurnCell;
 pub use held::Held;

@@ -12,7 +12,5 @@ mod handing;
 mod reducing;
 mod solos;
 mod steps;
-#[cfg(test)]
-mod tests;
 
 pub use solos::Solo;

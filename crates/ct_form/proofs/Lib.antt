@@ -6,4 +6,8 @@ pub mod Plain
 pub mod FormAnswer
 pub mod Kept
 pub mod ZeroColumns
+pub mod Made
+pub mod PaddedCosts
+pub mod EqualMade
+pub mod FormMade
 mod Worked

@@ -1,4 +1,5 @@
 pub mod Forms
 pub mod EqualityForms
 pub mod Kept
+pub mod Made
 pub mod Laws

@@ -5,7 +5,10 @@
 //! both have the same solutions, so that what is told is the least solution of the form.
 #![tactic(auto)]
 
+mod forms;
 pub mod laws;
+mod making;
 mod relation;
 
-pub use relation::Relation;
+pub use forms::Form;
+pub use relation::{Limits, Relation};

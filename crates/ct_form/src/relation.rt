@@ -1,4 +1,6 @@
-//! How a row of a form stands to its right-hand side.
+//! What a form says beside its numbers.
+
+use ct_point::Seq;
 
 /// How the sum of a row stands to the row's right-hand side.
 #[derive(Clone, Copy, Debug, PartialEq, Eq)]
@@ -7,4 +9,11 @@ pub enum Relation {
     Eq,
     /// The sum is at most the right-hand side.
     Le,
+}
+
+/// Of each row its relation, and of each column its bound, if it has one.
+#[derive(Debug, Drop)]
+pub struct Limits {
+    pub relations: Seq<Relation>,
+    pub bounds: Seq<Option<u64>>,
 }

@@ -4,7 +4,8 @@
 
 use anyhow::Result;
 use ct_outside::{Disk, FileShelf, MemSink};
-use ct_run::{Status, run};
+use ct_promise::run;
+use ct_run::Status;
 use ct_version::NoGate;
 use std::rt::Files;
 use std::sync::Wait;

@@ -14,7 +14,7 @@ use crate::texts::{Texts, list, string};
 use crate::trial::{Trial, words_of};
 use anyhow::{Context, Result};
 use ct_outside::{FetchFault, MemShelf, MemSink, Shelf};
-use ct_run::{run, run_plain};
+use ct_promise::{run, run_plain};
 use serde_json::Value;
 use std::alloc::Global;
 use std::rt::Files;

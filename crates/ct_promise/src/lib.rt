@@ -8,7 +8,5 @@
 
 mod calls;
 pub mod laws;
-#[cfg(test)]
-mod tests;
 
 pub use calls::{run, run_plain};

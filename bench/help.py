@@ -35,7 +35,7 @@ def table():
     for name, value in re.findall(r"pub const (\w+): \w+ = ([^;+-]+);", text("crates/ct_vectors/src/limits.rt")):
         NUMBERS[name] = number(value)
     source = text("crates/ct_words/src/table.rt")
-    pair = r"Bounds \{\s*low: ([^,]+),\s*high: ([^,]+),\s*\}"
+    pair = r"Bounds \{\s*low: ([^,]+),\s*high: ([^,}]+?),?\s*\}"
     bounds = {name: (number(low), number(high)) for name, low, high in re.findall(rf"const (\w+): Bounds = {pair};", source)}
     options = {}
     for const, name, given in re.findall(r'const (\w+): OptionRow = OptionRow \{\s*name: "([\w-]+)",\s*bounds: (.*?),\s*\};', source, re.S):

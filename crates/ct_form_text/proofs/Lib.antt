@@ -1,4 +1,2 @@
 pub mod Filled
 pub mod Cut
-pub mod Room
-pub mod ZeroColumns

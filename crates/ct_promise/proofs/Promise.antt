@@ -23,7 +23,7 @@ use Rattle.ct_words.specs.declared.table.CommandName.{CommandName}
 use Rattle.ct_words.specs.declared.table.CommandName.TheVariants as names
 use Rattle.ct_run.specs.declared.status.Status.{Status}
 use Rattle.ct_run.specs.declared.status.Status.TheVariants.{Done, BadInstance, BadSessions}
-use Rattle.ct_run.specs.Words.{answer, certify, check, Command, on, make, serve, limit_in, workers_in, two_texts, text_and_number, one_number, as_command, command_of, IsValueOf}
+use Rattle.ct_run.specs.Words.{answer, best, certify, check, Command, on, make, serve, limit_in, workers_in, two_texts, text_and_number, texts_and_number, one_number, as_command, command_of, IsValueOf}
 use Rattle.ct_run.specs.Forms.{instance_file, session_file}
 use Rattle.ct_run.specs.Outcome.{RunOutcome, bad_instance, bad_sessions, answered, served, Wrote, is_stop}
 use Rattle.ct_run.specs.Plan.{Plan, ends, by_value, script_plan, instance_plan, plan_of, plain_of}
@@ -54,6 +54,7 @@ mapped_has f (Some x) all = all x
 said_has_limit : (command : CommandName) (places : List WordPlace) (given : List WordGiven) → limit_in given ≤ MOVE_LIMIT → HasLimit (as_command command places given)
 said_has_limit names.Answer places given small =
     mapped_has (λ (x : List ℕ × List ℕ). on x.0 (answer x.1 (has_name (codes "walks") given) (has_name (codes "levels") given) (limit_in given))) (two_texts places) (λ x. small)
+said_has_limit names.Best places given small = mapped_has (λ (x : List ℕ × List ℕ × ℕ). on x.0 (best x.1 x.2 (limit_in given))) (texts_and_number places) (λ x. tt)
 said_has_limit names.Certify places given small = mapped_has (λ (x : List ℕ × ℕ). on x.0 (certify x.1 (limit_in given))) (text_and_number places) (λ x. tt)
 said_has_limit names.Check places given small = mapped_has (λ (x : List ℕ × List ℕ). on x.0 (check x.1)) (two_texts places) (λ x. tt)
 said_has_limit names.Make places given small = mapped_has make (one_number places) (λ x. tt)
@@ -70,6 +71,7 @@ command_has_limit words =
 plain_has_limit : (o : Option Command) → HasLimit o → HasLimit (plain_of o)
 plain_has_limit None small = tt
 plain_has_limit (Some (on instance (answer sessions walks levels moves))) small = small
+plain_has_limit (Some (on instance (best sessions count moves))) small = tt
 plain_has_limit (Some (on instance (certify grade moves))) small = tt
 plain_has_limit (Some (on instance (check ledger))) small = tt
 plain_has_limit (Some (make number)) small = tt
@@ -159,6 +161,7 @@ module _ (told : List ℕ → Told) (old new : Option (List ℕ)) where
   keeps None small ends_so = tt
   keeps (Some (on instance (answer sessions walks levels moves))) small ends_so =
       true_run instance sessions moves walks levels with_solves answered (λ i inst script is done. answered_told i inst moves small walks levels script is done) ends_so
+  keeps (Some (on instance (best sessions count moves))) small ends_so = tt
   keeps (Some (on instance (certify grade moves))) small ends_so = tt
   keeps (Some (on instance (check ledger))) small ends_so = tt
   keeps (Some (make number)) small ends_so = tt

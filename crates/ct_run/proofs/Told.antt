@@ -7,7 +7,7 @@ use Rattle.ct_words.specs.Table.{WordCommand, commands}
 use Rattle.ct_words.specs.Role.{WordGiven, number_in, ◌>>=◌}
 use Rattle.ct_words.specs.Parts.{WordParts, parts_of, are_distinct}
 use Rattle.ct_words.specs.Said.{WordPlace, text, number, WordsSaid, places_of, told_of, named_of, said_of}
-use Rattle.ct_run.specs.Words.{answer, certify, check, Command, on, make, serve, limit_in, workers_in, two_texts, text_and_number, one_number, as_command, command_of}
+use Rattle.ct_run.specs.Words.{answer, best, certify, check, Command, on, make, serve, limit_in, workers_in, two_texts, text_and_number, texts_and_number, one_number, as_command, command_of}
 use Rattle.ct_words.specs.Parts.{has_name}
 use Rattle.ct_run.proofs.Within.{some_is, map_is, find_has, said_by_row}
 
@@ -36,6 +36,25 @@ number_said bounds (a ∷ b ∷ c ∷ words) places is = by_number (number_in bo
     by_number None is = absurd (cc)
     by_number (Some n) is = absurd (cc)
 
+three_said : (bounds : Bounds) (words : List (List ℕ)) (places : List WordPlace) → places_of (None ∷ None ∷ Some bounds ∷ []) words ≡ Some places →
+    (x : List ℕ × List ℕ × ℕ) × (texts_and_number places ≡ Some x)
+unfolding places_of
+three_said bounds [] places is = absurd (cc)
+three_said bounds (a ∷ []) places is = absurd (cc)
+three_said bounds (a ∷ b ∷ []) places is = absurd (cc)
+three_said bounds (a ∷ b ∷ d ∷ []) places is = by_number (number_in bounds d) is
+  where
+    by_number : (o : Option ℕ) → option_map (λ ps. text a ∷ ps) (option_map (λ ps. text b ∷ ps) (option_map number o >>= λ place. option_map (λ ps. place ∷ ps) (Some []))) ≡ Some places →
+        (x : List ℕ × List ℕ × ℕ) × (texts_and_number places ≡ Some x)
+    by_number None is = absurd (cc)
+    by_number (Some n) is = subst (λ (ps : List WordPlace). (x : List ℕ × List ℕ × ℕ) × (texts_and_number ps ≡ Some x)) (some_is is) ((a, b, n), refl)
+three_said bounds (a ∷ b ∷ d ∷ e ∷ words) places is = by_number (number_in bounds d) is
+  where
+    by_number : (o : Option ℕ) → option_map (λ ps. text a ∷ ps) (option_map (λ ps. text b ∷ ps) (option_map number o >>= λ place. option_map (λ ps. place ∷ ps) None)) ≡ Some places →
+        (x : List ℕ × List ℕ × ℕ) × (texts_and_number places ≡ Some x)
+    by_number None is = absurd (cc)
+    by_number (Some n) is = absurd (cc)
+
 number_alone : (bounds : Bounds) (words : List (List ℕ)) (places : List WordPlace) → places_of (Some bounds ∷ []) words ≡ Some places → (n : ℕ) × (one_number places ≡ Some n)
 unfolding places_of
 number_alone bounds [] places is = absurd (cc)
@@ -58,16 +77,19 @@ rows_said : AllByRecursion IsRowSaid commands
 rows_said = (
   (λ words places given is. let x = two_said words places is in (_, ap (option_map (λ names. on names.0 (answer names.1 (has_name (codes "walks") given) (has_name (codes "levels") given) (limit_in given)))) x.1)),
   (
-    (λ words places given is. let x = number_said _ words places is in (_, ap (option_map (λ words. on words.0 (certify words.1 (limit_in given)))) x.1)),
+    (λ words places given is. let x = three_said _ words places is in (_, ap (option_map (λ words. on words.0 (best words.1 words.2 (limit_in given)))) x.1)),
     (
-      (λ words places given is. let x = two_said words places is in (_, ap (option_map (λ names. on names.0 (check names.1))) x.1)),
+      (λ words places given is. let x = number_said _ words places is in (_, ap (option_map (λ words. on words.0 (certify words.1 (limit_in given)))) x.1)),
       (
-        (λ words places given is. let x = number_alone _ words places is in (_, ap (option_map make) x.1)),
+        (λ words places given is. let x = two_said words places is in (_, ap (option_map (λ names. on names.0 (check names.1))) x.1)),
         (
-          (λ words places given is.
-              let x = two_said words places is in
-              (_, ap (option_map (λ names. serve names.0 names.1 (workers_in given) (has_name (codes "walks") given) (has_name (codes "levels") given) (limit_in given))) x.1)),
-          tt,
+          (λ words places given is. let x = number_alone _ words places is in (_, ap (option_map make) x.1)),
+          (
+            (λ words places given is.
+                let x = two_said words places is in
+                (_, ap (option_map (λ names. serve names.0 names.1 (workers_in given) (has_name (codes "walks") given) (has_name (codes "levels") given) (limit_in given))) x.1)),
+            tt,
+          ),
         ),
       ),
     ),

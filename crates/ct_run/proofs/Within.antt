@@ -15,8 +15,8 @@ use Rattle.ct_words.specs.Said.{WordPlace, text, number, WordsSaid, place_of, pl
 use Rattle.ct_words.proofs.Loops.{parts-word}
 use Rattle.ct_vectors.specs.declared.limits.TheConstants.{GRADE_LIMIT, MOVE_LIMIT, WORKER_LIMIT}
 use Rattle.ct_words.specs.declared.table.CommandName.{CommandName}
-use Rattle.ct_words.specs.declared.table.CommandName.TheVariants.{Certify}
-use Rattle.ct_run.specs.Words.{IsLimit, IsNumberOf, IsPlaceWithin, IsValueOf, HasNumbersWithin, text_and_number}
+use Rattle.ct_words.specs.declared.table.CommandName.TheVariants.{Best, Certify}
+use Rattle.ct_run.specs.Words.{IsLimit, IsNumberOf, IsPlaceWithin, IsValueOf, HasNumbersWithin, IsBestCount, text_and_number, texts_and_number}
 
 pub some_is : {X : Type 0} {x y : X} → Some x ≡ Some y → x ≡ y
 some_is {X} {x} {y} same = ap (λ o. unwrap_or o x) same
@@ -208,12 +208,15 @@ rows-within : AllByRecursion IsRowWithin commands
 rows-within = (
   record { places = (tt, (tt, tt)); options = (tt, (tt, (moves_value, tt))) },
   (
-    record { places = (tt, (λ n low high. high, tt)); options = (moves_value, tt) },
+    record { places = (tt, (tt, (λ n low high. (low, high), tt))); options = (moves_value, tt) },
     (
-      record { places = (tt, (tt, tt)); options = tt },
+      record { places = (tt, (λ n low high. high, tt)); options = (moves_value, tt) },
       (
-        record { places = (λ n low high. tt, tt); options = tt },
-        (record { places = (tt, (tt, tt)); options = (workers_value, (tt, (tt, (moves_value, tt)))) }, tt),
+        record { places = (tt, (tt, tt)); options = tt },
+        (
+          record { places = (λ n low high. tt, tt); options = tt },
+          (record { places = (tt, (tt, tt)); options = (workers_value, (tt, (tt, (moves_value, tt)))) }, tt),
+        ),
       ),
     ),
   ),
@@ -264,3 +267,18 @@ grade-within command places name n same all is = of_certify places name n (subst
     of_certify (number k ∷ places) name n all is = absurd (cc)
     of_certify (text word ∷ text other ∷ places) name n all is = absurd (cc)
     of_certify (text word ∷ number k ∷ more ∷ places) name n all is = absurd (cc)
+
+-- and so is a count in the third place
+pub count-within : (command : CommandName) (places : List WordPlace) (first second : List ℕ) (n : ℕ) → command ≡ Best → AllByRecursion (IsPlaceWithin command) places →
+    texts_and_number places ≡ Some (first, second, n) → IsBestCount n
+count-within command places first second n same all is = of_best places first second n (subst (λ c. AllByRecursion (IsPlaceWithin c) places) same all) is
+  where
+    of_best : (places : List WordPlace) (first second : List ℕ) (n : ℕ) → AllByRecursion (IsPlaceWithin Best) places → texts_and_number places ≡ Some (first, second, n) → IsBestCount n
+    of_best (text word ∷ text other ∷ number k ∷ []) first second n all is = subst IsBestCount (ap (λ (p : List ℕ × List ℕ × ℕ). p.2) (some_is is)) all.1.1.0
+    of_best [] first second n all is = absurd (cc)
+    of_best (number k ∷ places) first second n all is = absurd (cc)
+    of_best (text word ∷ []) first second n all is = absurd (cc)
+    of_best (text word ∷ number k ∷ places) first second n all is = absurd (cc)
+    of_best (text word ∷ text other ∷ []) first second n all is = absurd (cc)
+    of_best (text word ∷ text other ∷ text third ∷ places) first second n all is = absurd (cc)
+    of_best (text word ∷ text other ∷ number k ∷ more ∷ places) first second n all is = absurd (cc)

@@ -1,5 +1,5 @@
 -- The definitions on worked examples, by computation.
-use Rattle.std.proofs.Common.{pos, negsuc, ◌≡◌, ℕ, Bool, true, false, List, ◌++◌, [], ◌∷◌, Option, None, Some, Result, Ok, Err, refl, codes}
+use Rattle.std.proofs.Common.{pos, negsuc, ◌≡◌, ℕ, ◌*◌, nat_lt, cond, length, Bool, true, false, List, ◌++◌, [], ◌∷◌, Option, None, Some, Result, Ok, Err, refl, codes}
 use Rattle.std.specs.Fmt.{digits}
 use Rattle.ct_instance.specs.Instance.{Problem}
 use Rattle.ct_input.specs.declared.fault.Fault.TheVariants.{TooLong, Text}
@@ -10,20 +10,21 @@ use Rattle.ct_run.specs.Texts.{newline}
 use Rattle.ct_outside.specs.Shelf.{Told, untold, absent, holds}
 use Rattle.ct_input.specs.declared.fault.Fault.{Fault}
 use Rattle.ct_run.specs.Forms.{instance_file, session_file}
-use Rattle.ct_run.specs.declared.status.Status.TheVariants.{Done, Usage, BadInstance, BadSessions, BadLedger, LedgerRefused, Full}
+use Rattle.ct_run.specs.declared.status.Status.TheVariants.{Done, Usage, BadInstance, BadSessions, BadLedger, LedgerRefused, Full, TooMany}
 use Rattle.ct_text.specs.Numbers.{natural_of}
 use Rattle.ct_words.specs.Parts.{parts_of}
 use Rattle.ct_words.specs.Said.{places_of}
-use Rattle.ct_run.specs.Words.{Work, answer, certify, check, Command, on, make, serve, command_of}
+use Rattle.ct_run.specs.Words.{Work, answer, best, certify, check, Command, on, make, serve, command_of}
 use Rattle.ct_instance.specs.Reach.{full_grade_up_to}
 use Rattle.ct_ledger.specs.Parts.{LedgerParts}
 use Rattle.ct_checker.specs.declared.verdicts.Verdict.{Verdict}
 use Rattle.ct_checker.specs.declared.verdicts.Verdict.TheVariants.{Accepted, Refused}
 use Rattle.ct_checker.specs.Checking.{verdict_of}
 use Rattle.ct_run.specs.Checked.{IsVerdictEnding, IsChecked, over, faulty, weighed}
+use Rattle.ct_best_report.specs.BestReport.{rights_in}
 use Rattle.ct_answer.specs.declared.options.Options.{Options}
-use Rattle.ct_run.specs.Outcome.{bad_instance, bad_sessions, answered, served, IsEnding, Wrote}
-use Rattle.ct_run.specs.Plan.{ends, by_value, case_of, ledger_or_full, serve_plan, work_plan, instance_plan, plan_of}
+use Rattle.ct_run.specs.Outcome.{bad_instance, bad_sessions, answered, listed, too_many, served, IsEnding, Wrote}
+use Rattle.ct_run.specs.Plan.{ends, by_value, case_of, listed_or_too_many, ledger_or_full, serve_plan, work_plan, instance_plan, plan_of}
 use Rattle.ct_run.specs.Running.{HasBytes, Ends}
 
 zero_column_line : IsEnding (bad_instance (Text 5 3 ZeroColumn)) BadInstance (codes "bad instance: line 5 column 3: zero column" ++ newline)
@@ -92,9 +93,20 @@ no_usage_of_ledger i bytes text (over long own same) = let no : Usage ≡ BadLed
 no_usage_of_ledger i bytes text (faulty line within fault own same) = let no : Usage ≡ BadLedger = own in cc
 no_usage_of_ledger i bytes text (weighed l within is same verdict) = no_usage_of_verdict (verdict_of i l) i l text verdict
 
+no_usage_of_listing : (read : Result Script Fault) (c : Case) (count : ℕ) (told : List ℕ → Told) (old new : Option (List ℕ)) →
+    Ends (by_value bad_sessions (λ script. ends (listed_or_too_many c count script)) read) told (Wrote Usage old new) → ⊥
+no_usage_of_listing (Ok script) c count told old new wrote = by_count (nat_lt 10000 (length (rights_in script) * count)) wrote
+  where
+    by_count : (b : Bool) → Ends (ends (cond b (too_many (length (rights_in script))) (listed c count script))) told (Wrote Usage old new) → ⊥
+    by_count true wrote = let no : Usage ≡ TooMany = wrote.1.0.0 in cc
+    by_count false wrote = let no : Usage ≡ Done = wrote.1.0.0 in cc
+no_usage_of_listing (Err fault) c count told old new wrote = let no : Usage ≡ BadSessions = wrote.1.0.0 in cc
+
 no_usage_by_work : (work : Work) (i : Problem) (told : List ℕ → Told) (old new : Option (List ℕ)) → Ends (work_plan work i) told (Wrote Usage old new) → ⊥
 no_usage_by_work (answer sessions walks levels moves) i told old new wrote =
     of_bytes (told sessions) _ ⊥ (λ bytes. no_usage_by_sessions (session_file i.rows bytes) (case_of (record { limit = moves; walks = walks; levels = levels }) i) told old new) wrote
+no_usage_by_work (best sessions count moves) i told old new wrote =
+    of_bytes (told sessions) _ ⊥ (λ bytes. no_usage_of_listing (session_file i.rows bytes) (case_of (record { limit = moves; walks = false; levels = false }) i) count told old new) wrote
 no_usage_by_work (certify grade moves) i told old new wrote = no_usage_of_grade (full_grade_up_to i moves grade) i grade old new wrote
 no_usage_by_work (check ledger) i told old new wrote = of_bytes (told ledger) _ ⊥ (λ bytes w. no_usage_of_ledger i bytes w.0 w.1.0) wrote
 

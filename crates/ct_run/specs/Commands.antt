@@ -1,12 +1,13 @@
 -- What the program's commands stand for.
 use Rattle.ct_run.specs.declared.words.Work.{Work as RustWork}
-use Rattle.ct_run.specs.declared.words.Work.TheVariants.{Answer, Certify, Check}
+use Rattle.ct_run.specs.declared.words.Work.TheVariants.{Answer, Best, Certify, Check}
 use Rattle.ct_run.specs.declared.words.Command.{Command as Rust}
 use Rattle.ct_run.specs.declared.words.Command.TheVariants.{On, Make, Serve}
-use Rattle.ct_run.specs.Words.{Work, answer, certify, check, Command, on, make, serve}
+use Rattle.ct_run.specs.Words.{Work, answer, best, certify, check, Command, on, make, serve}
 
 abbrev pub work_seen : RustWork → Work
 work_seen (Answer sessions walks levels moves) = answer sessions.now walks levels moves
+work_seen (Best sessions count moves) = best sessions.now count moves
 work_seen (Certify grade moves) = certify grade moves
 work_seen (Check ledger) = check ledger.now
 

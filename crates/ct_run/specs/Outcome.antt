@@ -7,11 +7,14 @@ use Rattle.ct_input.specs.declared.fault.Fault.{Fault}
 use Rattle.ct_input.specs.declared.script.Script.{Script}
 use Rattle.ct_input.specs.FaultText.{fault_text}
 use Rattle.ct_run.specs.declared.status.Status.{Status}
-use Rattle.ct_run.specs.declared.status.Status.TheVariants.{Done, Usage, BadInstance, BadSessions, ReadFault, WriteFault, Memory, Full}
+use Rattle.ct_run.specs.declared.status.Status.TheVariants.{Done, Usage, BadInstance, BadSessions, ReadFault, WriteFault, Memory, Full, TooMany}
 use Rattle.ct_report.specs.declared.reports.Report.{Report}
 use Rattle.ct_report.specs.ReportText.{report_text}
 use Rattle.ct_legal.specs.Cases.{Case}
 use Rattle.ct_legal.specs.Legal.{IsLegalServed, IsLegalAnswered}
+use Rattle.ct_best_report.specs.declared.reports.BestAnswer.{BestAnswer}
+use Rattle.ct_best_report.specs.BestReport.{IsBestReport}
+use Rattle.ct_best_report.specs.BestText.{best_text}
 use Rattle.ct_run.specs.Texts.{newline}
 use Rattle.ct_run.specs.Certificate.{IsCertificate}
 use Rattle.ct_run.specs.Checked.{IsChecked}
@@ -23,6 +26,8 @@ pub data RunOutcome : Type 0 where
   bad_instance : Fault → RunOutcome
   bad_sessions : Fault → RunOutcome
   answered : Case → Script → RunOutcome
+  listed : Case → ℕ → Script → RunOutcome
+  too_many : ℕ → RunOutcome
   certified : Problem → ℕ → RunOutcome
   full : ℕ → RunOutcome
   checked : Problem → List ℕ → RunOutcome
@@ -37,12 +42,18 @@ IsReportOf c script text = (report : Report) × (IsLegalAnswered c script report
 abbrev pub IsServedReportOf : Case → Script → List ℕ → Type 0
 IsServedReportOf c script text = (report : Report) × (IsLegalServed c script report × (text ≡ report_text report))
 
+-- a text of what is told of the least solutions of each request
+abbrev pub IsBestOf : Case → ℕ → Script → List ℕ → Type 0
+IsBestOf c count script text = (answers : List BestAnswer) × (IsBestReport c count script answers × (text ≡ best_text answers))
+
 -- the status and the text with which the outcome ends
 abbrev pub IsEnding : RunOutcome → Status → List ℕ → Type 0
 IsEnding usage status text = (status ≡ Usage) × (text ≡ codes "usage: ct COMMAND ARGUMENTS" ++ newline)
 IsEnding (bad_instance fault) status text = (status ≡ BadInstance) × (text ≡ codes "bad instance: " ++ fault_text fault ++ newline)
 IsEnding (bad_sessions fault) status text = (status ≡ BadSessions) × (text ≡ codes "bad sessions: " ++ fault_text fault ++ newline)
 IsEnding (answered c script) status text = (status ≡ Done) × IsReportOf c script text
+IsEnding (listed c count script) status text = (status ≡ Done) × IsBestOf c count script text
+IsEnding (too_many requests) status text = (status ≡ TooMany) × (text ≡ codes "too many: " ++ decimal requests ++ codes " requests" ++ newline)
 IsEnding (certified i grade) status text = (status ≡ Done) × IsCertificate i grade text
 IsEnding (full grade) status text = (status ≡ Full) × (text ≡ codes "full " ++ decimal grade ++ newline)
 IsEnding (checked i bytes) status text = IsChecked i bytes status text

@@ -1,5 +1,5 @@
 -- What a command does: it asks for files by their names, one after another, and comes to an outcome.
-use Rattle.std.specs.Prelude.{ℕ, List, Option, Some, None, Result, Ok, Err, map, string_bytes, String}
+use Rattle.std.specs.Prelude.{ℕ, ◌*◌, nat_lt, cond, length, false, List, Option, Some, None, Result, Ok, Err, map, string_bytes, String}
 use Rattle.std.specs.declared.alloc.Global.{Global}
 use Rattle.ct_input.specs.declared.fault.Fault.{Fault}
 use Rattle.ct_input.specs.declared.script.Script.{Script}
@@ -7,9 +7,10 @@ use Rattle.ct_run.specs.Forms.{instance_file, session_file}
 use Rattle.ct_instance.specs.Instance.{Problem}
 use Rattle.ct_instance.specs.Reach.{full_grade_up_to}
 use Rattle.ct_legal.specs.Cases.{Case, plain_case}
+use Rattle.ct_best_report.specs.BestReport.{rights_in}
 use Rattle.ct_answer.specs.declared.options.Options.{Options}
-use Rattle.ct_run.specs.Words.{Work, answer, certify, check, Command, on, make, serve, command_of}
-use Rattle.ct_run.specs.Outcome.{RunOutcome, usage, bad_instance, bad_sessions, answered, certified, full, checked, made, served}
+use Rattle.ct_run.specs.Words.{Work, answer, best, certify, check, Command, on, make, serve, command_of}
+use Rattle.ct_run.specs.Outcome.{RunOutcome, usage, bad_instance, bad_sessions, answered, listed, too_many, certified, full, checked, made, served}
 
 -- it ends with an outcome, or asks for the file of a name and goes on with its bytes
 pub data Plan : Type 0 where
@@ -41,6 +42,14 @@ serve_plan sessions c = script_plan sessions (c.instance).rows (λ script. ends 
 abbrev pub case_of : Options → Problem → Case
 case_of o i = plain_case i o.limit o.walks o.levels
 
+-- the least solutions of each request, where as many requests times the count are at most 10,000
+abbrev pub listed_or_too_many : Case → ℕ → Script → RunOutcome
+listed_or_too_many c count script =
+    cond (nat_lt 10000 (length (rights_in script) * count)) (too_many (length (rights_in script))) (listed c count script)
+
+abbrev pub best_plan : List ℕ → Case → ℕ → Plan
+best_plan sessions c count = script_plan sessions (c.instance).rows (λ script. ends (listed_or_too_many c count script))
+
 -- the ledger of a grade, or the full grade where that is at most the grade
 abbrev pub ledger_or_full : Problem → ℕ → Option ℕ → RunOutcome
 ledger_or_full i grade None = certified i grade
@@ -56,6 +65,7 @@ check_plan ledger i = asks ledger (λ bytes. ends (checked i bytes))
 -- what is done with the instance
 abbrev pub work_plan : Work → Problem → Plan
 work_plan (answer sessions walks levels moves) i = sessions_plan sessions (case_of (record { limit = moves; walks = walks; levels = levels }) i)
+work_plan (best sessions count moves) i = best_plan sessions (case_of (record { limit = moves; walks = false; levels = false }) i) count
 work_plan (certify grade moves) i = certify_plan grade moves i
 work_plan (check ledger) i = check_plan ledger i
 

@@ -7,12 +7,13 @@ use Rattle.ct_words.specs.Role.{WordGiven, ◌>>=◌}
 use Rattle.ct_words.specs.Parts.{has_name, value_of}
 use Rattle.ct_words.specs.Said.{WordPlace, text, number, WordsSaid, said_of}
 use Rattle.ct_words.specs.declared.table.CommandName.{CommandName}
-use Rattle.ct_words.specs.declared.table.CommandName.TheVariants.{Answer, Certify, Check, Make, Serve}
+use Rattle.ct_words.specs.declared.table.CommandName.TheVariants.{Answer, Best, Certify, Check, Make, Serve}
 use Rattle.ct_run.specs.declared.words.TheConstants.{WORKER_DEFAULT}
 
 -- what is done with an instance in one thread; `moves` is the limit on the number of moves
 pub data Work : Type 0 where
   answer : (sessions : List ℕ) (walks levels : Bool) (moves : ℕ) → Work
+  best : (sessions : List ℕ) (count moves : ℕ) → Work
   certify : (grade moves : ℕ) → Work
   check : (ledger : List ℕ) → Work
 
@@ -38,6 +39,10 @@ abbrev pub text_and_number : List WordPlace → Option (List ℕ × ℕ)
 text_and_number (text first ∷ number second ∷ []) = Some (first, second)
 text_and_number _ = None
 
+abbrev pub texts_and_number : List WordPlace → Option (List ℕ × List ℕ × ℕ)
+texts_and_number (text first ∷ text second ∷ number third ∷ []) = Some (first, second, third)
+texts_and_number _ = None
+
 abbrev pub one_number : List WordPlace → Option ℕ
 one_number (number only ∷ []) = Some only
 one_number _ = None
@@ -45,6 +50,7 @@ one_number _ = None
 -- what was said, as a command
 abbrev pub as_command : CommandName → List WordPlace → List WordGiven → Option Command
 as_command Answer places given = option_map (λ names. on names.0 (answer names.1 (has_name (codes "walks") given) (has_name (codes "levels") given) (limit_in given))) (two_texts places)
+as_command Best places given = option_map (λ words. on words.0 (best words.1 words.2 (limit_in given))) (texts_and_number places)
 as_command Certify places given = option_map (λ words. on words.0 (certify words.1 (limit_in given))) (text_and_number places)
 as_command Check places given = option_map (λ names. on names.0 (check names.1)) (two_texts places)
 as_command Make places given = option_map make (one_number places)
@@ -59,8 +65,13 @@ command_of words = said_of commands words >>= λ said. as_command said.command s
 abbrev pub IsLimit : ℕ → Type 0
 IsLimit n = (1 ≤ n) × (n ≤ MOVE_LIMIT)
 
+-- how many least solutions may be asked for
+abbrev pub IsBestCount : ℕ → Type 0
+IsBestCount n = (1 ≤ n) × (n ≤ 100)
+
 -- what a number is among the positional words of the command
 abbrev pub IsNumberOf : CommandName → ℕ → Type 0
+IsNumberOf Best n = IsBestCount n
 IsNumberOf Certify n = n ≤ GRADE_LIMIT
 IsNumberOf command n = Unit {0}
 
@@ -80,6 +91,7 @@ pub record HasNumbersWithin (said : WordsSaid) : Type 0 where
 -- the same of a command
 abbrev pub IsWorkWithin : Work → Type 0
 IsWorkWithin (answer sessions walks levels moves) = IsLimit moves
+IsWorkWithin (best sessions count moves) = IsBestCount count × IsLimit moves
 IsWorkWithin (certify grade moves) = (grade ≤ GRADE_LIMIT) × IsLimit moves
 IsWorkWithin (check ledger) = Unit {0}
 

@@ -12,6 +12,7 @@ mod certifying;
 mod checking;
 mod ending;
 pub mod laws;
+mod listing;
 mod making;
 mod plain;
 mod reading;

@@ -1,14 +1,15 @@
 //! The commands that take no threads.
-ghost use Rattle.std.specs.Prelude.{◌≡◌, ◌≤◌, ℕ, List, IfSome, option_map};
+ghost use Rattle.std.specs.Prelude.{◌≡◌, ◌≤◌, false, ℕ, List, IfSome, option_map};
 ghost use Rattle.std.specs.Arc.{arc_value};
-ghost use Rattle.ct_run.specs.Words.{IsLimit, IsWorkWithin, IsCommandWithin};
+ghost use Rattle.ct_run.specs.Words.{IsLimit, IsBestCount, IsWorkWithin, IsCommandWithin};
 ghost use Rattle.ct_run.specs.Commands.{work_seen, seen};
-ghost use Rattle.ct_run.specs.Plan.{case_of, sessions_plan, check_plan, work_plan, instance_plan, plan_of, plain_of};
+ghost use Rattle.ct_run.specs.Plan.{case_of, sessions_plan, best_plan, check_plan, work_plan, instance_plan, plan_of, plain_of};
 ghost use Rattle.ct_run.specs.Stopping.{Ran};
 
 use crate::certifying::certify_ending;
 use crate::checking::check_ending;
 use crate::ending::{Ending, report_ending, usage_ending};
+use crate::listing::best_ending;
 use crate::making::made_ending;
 use crate::reading::{file_at, instance_at, script_at};
 use crate::stop::Stop;
@@ -35,6 +36,26 @@ fn sessions_ending<S: Shelf>(
 {
     let script = script_at(alloc, inst.rows(), sessions, shelf)?;
     Ok(report_ending(alloc, inst, &script, options)?)
+}
+
+// The ending of `best` on the session file of an instance.
+fn listed_ending<S: Shelf>(
+    alloc: Global,
+    inst: &Arc<Instance>,
+    sessions: &str,
+    count: u64,
+    options: Options,
+    shelf: &mut S,
+) -> Result<Ending, Stop>
+    requires limit { IsLimit options.limit }
+    requires count { IsBestCount count }
+    requires plain { (options.walks ≡ false) × (options.levels ≡ false) }
+    ensures ran { Ran (best_plan sessions.now (case_of options (arc_value inst.now)) count) (S.told shelf.old) (S.faults shelf.old) (S.faults shelf.new) result }
+    ensures kept { S.told shelf.new ≡ S.told shelf.old }
+    ensures later { (name : List ℕ) → S.faults shelf.old name ≤ S.faults shelf.new name }
+{
+    let script = script_at(alloc, inst.rows(), sessions, shelf)?;
+    Ok(best_ending(alloc, inst, &script, count, options)?)
 }
 
 // The ending of `check` on the ledger file.
@@ -78,6 +99,18 @@ fn work_ending<S: Shelf>(
                 levels,
             };
             sessions_ending(alloc, &inst, sessions, options, shelf)
+        }
+        Work::Best {
+            sessions,
+            count,
+            moves,
+        } => {
+            let options = Options {
+                limit: moves,
+                walks: false,
+                levels: false,
+            };
+            listed_ending(alloc, &inst, sessions, count, options, shelf)
         }
         Work::Certify { grade, moves } => Ok(certify_ending(alloc, inst, grade, moves)?),
         Work::Check { ledger } => ledger_ending(alloc, &inst, ledger, shelf),

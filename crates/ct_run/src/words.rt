@@ -2,7 +2,7 @@
 ghost use Rattle.std.specs.Prelude.{◌≡◌, ◌≤◌, map, option_map, string_bytes, IfOk, IfSome};
 ghost use Rattle.ct_words.specs.Role.{given_seen};
 ghost use Rattle.ct_words.specs.Said.{place_seen, seen as said_seen};
-ghost use Rattle.ct_run.specs.Words.{IsLimit, HasNumbersWithin, IsCommandWithin, limit_in, workers_in, two_texts as two_texts_of, text_and_number as text_and_number_of, one_number as one_number_of, as_command, command_of};
+ghost use Rattle.ct_run.specs.Words.{IsLimit, HasNumbersWithin, IsCommandWithin, limit_in, workers_in, two_texts as two_texts_of, text_and_number as text_and_number_of, texts_and_number as texts_and_number_of, one_number as one_number_of, as_command, command_of};
 ghost use Rattle.ct_run.specs.Commands.{seen};
 ghost use Rattle.ct_vectors.specs.declared.limits.TheConstants.{WORKER_LIMIT};
 
@@ -21,6 +21,12 @@ pub enum Work<'a> {
         sessions: &'a str,
         walks: bool,
         levels: bool,
+        moves: u32,
+    },
+    /// Gives the least solutions of each request of a session file, at most `count`.
+    Best {
+        sessions: &'a str,
+        count: u64,
         moves: u32,
     },
     /// Prints the ledger of a grade.
@@ -77,6 +83,20 @@ fn text_and_number<'a>(places: &[Place<'a>]) -> Option<(&'a str, u64)>
     }
 }
 
+// The three words, where the first two are texts and the third is a number.
+fn texts_and_number<'a>(places: &[Place<'a>]) -> Option<(&'a str, &'a str, u64)>
+    ensures { option_map (λ words. (words.0.now, words.1.now, words.2)) result ≡ texts_and_number_of (map place_seen places.now) }
+{
+    match places {
+        [
+            Place::Text(first),
+            Place::Text(second),
+            Place::Number(third),
+        ] => Some((*first, *second, *third)),
+        _ => None,
+    }
+}
+
 // The one word, where it is a number.
 fn one_number(places: &[Place<'_>]) -> Option<u64>
     ensures { result ≡ one_number_of (map place_seen places.now) }
@@ -125,6 +145,15 @@ fn command_said<'a>(said: &Said<'a>) -> Option<Command<'a>>
                 sessions,
                 walks: said.has("walks"),
                 levels: said.has("levels"),
+                moves,
+            };
+            Some(Command::On { instance, work })
+        }
+        CommandName::Best => {
+            let (instance, sessions, count) = texts_and_number(&said.places)?;
+            let work = Work::Best {
+                sessions,
+                count,
                 moves,
             };
             Some(Command::On { instance, work })

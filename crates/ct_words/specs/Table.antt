@@ -3,7 +3,7 @@ use Rattle.std.specs.Prelude.{ℕ, List, [], ◌∷◌, map, Option, Some, None,
 use Rattle.ct_vectors.specs.declared.limits.TheConstants.{GRADE_LIMIT, MOVE_LIMIT, WORKER_LIMIT}
 use Rattle.ct_words.specs.declared.table.Bounds.{Bounds}
 use Rattle.ct_words.specs.declared.table.CommandName.{CommandName}
-use Rattle.ct_words.specs.declared.table.CommandName.TheVariants.{Answer, Certify, Check, Make, Serve}
+use Rattle.ct_words.specs.declared.table.CommandName.TheVariants.{Answer, Best, Certify, Check, Make, Serve}
 use Rattle.ct_words.specs.declared.table.OptionRow.{OptionRow}
 use Rattle.ct_words.specs.declared.table.CommandRow.{CommandRow}
 
@@ -46,10 +46,11 @@ any_text = None
 abbrev pub any_number : Option Bounds
 any_number = from_to 0 18446744073709551615
 
--- answer INSTANCE SESSIONS, certify INSTANCE GRADE, check INSTANCE LEDGER, make NUMBER, serve INSTANCE SESSIONS
+-- answer INSTANCE SESSIONS, best INSTANCE SESSIONS COUNT, certify INSTANCE GRADE, check INSTANCE LEDGER, make NUMBER, serve INSTANCE SESSIONS
 abbrev pub commands : List WordCommand
 commands =
     record { command = Answer; name = codes "answer"; places = any_text ∷ any_text ∷ []; options = flag (codes "walks") ∷ flag (codes "levels") ∷ moves ∷ [] }
+    ∷ record { command = Best; name = codes "best"; places = any_text ∷ any_text ∷ from_to 1 100 ∷ []; options = moves ∷ [] }
     ∷ record { command = Certify; name = codes "certify"; places = any_text ∷ from_to 0 GRADE_LIMIT ∷ []; options = moves ∷ [] }
     ∷ record { command = Check; name = codes "check"; places = any_text ∷ any_text ∷ []; options = [] }
     ∷ record { command = Make; name = codes "make"; places = any_number ∷ []; options = [] }

@@ -7,6 +7,8 @@ use ct_vectors::limits::{GRADE_LIMIT, MOVE_LIMIT, WORKER_LIMIT};
 pub enum CommandName {
     /// Answers the requests of a session file.
     Answer,
+    /// Gives the least solutions of each request of a session file.
+    Best,
     /// Prints the ledger of a grade.
     Certify,
     /// Checks a ledger.
@@ -71,18 +73,26 @@ const GRADE: Bounds = Bounds {
     high: GRADE_LIMIT,
 };
 
+const COUNT: Bounds = Bounds { low: 1, high: 100 };
+
 const ANY_NUMBER: Bounds = Bounds {
     low: 0,
     high: u64::MAX,
 };
 
 /// Each command, with its positional words and its options.
-pub static COMMANDS: [CommandRow; 5] = [
+pub static COMMANDS: [CommandRow; 6] = [
     CommandRow {
         command: CommandName::Answer,
         name: "answer",
         places: &[None, None],
         options: &[WALKS, LEVELS, MOVES],
+    },
+    CommandRow {
+        command: CommandName::Best,
+        name: "best",
+        places: &[None, None, Some(COUNT)],
+        options: &[MOVES],
     },
     CommandRow {
         command: CommandName::Certify,

@@ -10,7 +10,8 @@ use Rattle.ct_input.specs.Files.{value_in}
 use Rattle.ct_input.specs.Cut.{IsCutBefore, EndsWithEnd}
 use Rattle.ct_input.proofs.CutGrammars.{Stops}
 use Rattle.ct_input.proofs.CutTexts.{Plain, stops_part, plain_part, plain_numbers, plain_exactly, plain_cost_rows, cut_text, text_ends}
-use Rattle.ct_form_text.specs.FormText.{slacks_of, given_of, relation, bound, relations, bounds, form_number, given_limits, limits, form_text}
+use Rattle.ct_form.specs.Made.{given_of}
+use Rattle.ct_form_text.specs.FormText.{slacks_of, relation, bound, relations, bounds, form_number, given_limits, limits, form_text}
 use Rattle.ct_form_text.specs.Files.{draft_file}
 
 plain_relation : (spare : ℕ) → Plain (relation spare)

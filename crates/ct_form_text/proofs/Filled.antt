@@ -7,9 +7,10 @@ use Rattle.ct_input.specs.Grammar.{Grammar, done, nothing, word, number, signed,
 use Rattle.ct_input.specs.InstanceText.{cost_rows}
 use Rattle.ct_input.proofs.Filling.{end_word, Fills, opens, Closes, Needs}
 use Rattle.ct_input.proofs.Filled.{opens_part, fills_part, closes_part, fills_numbers, fills_cost_rows, opens_cost_rows}
-use Rattle.ct_form_text.specs.declared.draft.Limits.{Limits}
+use Rattle.ct_form.specs.declared.relation.Limits.{Limits}
 use Rattle.ct_form_text.specs.declared.draft.FormDraft.{FormDraft}
-use Rattle.ct_form_text.specs.FormText.{slacks_of, given_of, relation, bound, relations, bounds, form_number, given_limits, limits, form_text}
+use Rattle.ct_form.specs.Made.{given_of}
+use Rattle.ct_form_text.specs.FormText.{slacks_of, relation, bound, relations, bounds, form_number, given_limits, limits, form_text}
 
 false_is_not_true : false ≡ true → ⊥
 false_is_not_true e = cc

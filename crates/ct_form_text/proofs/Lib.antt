@@ -1,2 +1,4 @@
 pub mod Filled
 pub mod Cut
+pub mod Room
+pub mod ZeroColumns

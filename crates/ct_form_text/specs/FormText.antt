@@ -5,18 +5,14 @@ use Rattle.ct_input.specs.Grammar.{Grammar, done, nothing, word, number, fork, b
 use Rattle.ct_input.specs.InstanceText.{cost_rows}
 use Rattle.ct_form.specs.declared.relation.Relation.{Relation}
 use Rattle.ct_form.specs.declared.relation.Relation.TheVariants.{Eq, Le}
-use Rattle.ct_form_text.specs.declared.draft.Limits.{Limits}
+use Rattle.ct_form.specs.declared.relation.Limits.{Limits}
+use Rattle.ct_form.specs.Made.{given_of}
 use Rattle.ct_form_text.specs.declared.draft.FormDraft.{FormDraft}
 
 -- how many slack columns a row has in the equality form
 abbrev pub slacks_of : Relation → ℕ
 slacks_of Eq = 0
 slacks_of Le = 1
-
--- how many rows and slack columns a bound has there
-abbrev pub given_of : Option ℕ → ℕ
-given_of None = 0
-given_of (Some u) = 1
 
 -- a relation where no column is spare
 abbrev pub full_relation : Grammar Relation

@@ -4,16 +4,17 @@ ghost use Rattle.std.specs.Prelude.{◌≡◌, ◌-◌, ◌≤◌, IfOk, length,
 ghost use Rattle.ct_vectors.specs.declared.limits.TheConstants.{ROW_LIMIT, COLUMN_LIMIT};
 ghost use Rattle.ct_input.specs.Sheet.{Gives};
 ghost use Rattle.ct_input.specs.Grammar.{read};
-ghost use Rattle.ct_form_text.specs.FormText.{slacks_of, given_of, full_relation, free_relation, relation, relations, full_bound, free_bound, bound, bounds, form_number, given_limits, limits, form_text};
-ghost use Rattle.ct_form_text.specs.Files.{draft_file};
+ghost use Rattle.ct_form_text.specs.FormText.{slacks_of, full_relation, free_relation, relation, relations, full_bound, free_bound, bound, bounds, form_number, plain_limits, given_limits, limits, form_text};
+ghost use Rattle.ct_form.specs.Made.{given_of};
+ghost use Rattle.ct_form_text.specs.Files.{draft_file, form_file, HasRoom, AreNumbers};
 
-use crate::draft::{FormDraft, Limits};
-use ct_form::Relation;
+use crate::draft::FormDraft;
+use ct_form::{Form, Limits, Relation};
 use ct_input::limits::INSTANCE_FILE_LIMIT;
-use ct_input::{Fault, InputStop, Reader, costs_in, numbers};
+use ct_input::{Fault, InputStop, Reader, costs_in, numbers, refused};
 use ct_point::Seq;
 use ct_vectors::limits::{COLUMN_LIMIT, ENTRY_LIMIT, RIGHT_LIMIT, ROW_LIMIT};
-use std::alloc::Global;
+use std::alloc::{AllocError, Global};
 
 fn slacks(relation: Relation) -> usize
     ensures { result ≡ slacks_of relation }
@@ -159,6 +160,16 @@ fn given_limits(
     })
 }
 
+// Each row is equal to its right-hand side, and no column has a bound.
+fn plain_limits(alloc: Global, rows: usize, columns: usize) -> Result<Limits, AllocError>
+    ensures { IfOk result (λ l. l ≡ plain_limits rows columns) }
+{
+    Ok(Limits {
+        relations: Seq::from_vec(vec![in alloc; Relation::Eq; rows]?),
+        bounds: Seq::from_vec(vec![in alloc; None; columns]?),
+    })
+}
+
 fn limits(
     alloc: Global,
     reader: &mut Reader,
@@ -168,20 +179,20 @@ fn limits(
 ) -> Result<Limits, InputStop>
     requires rows { rows ≤ ROW_LIMIT }
     requires columns { columns ≤ COLUMN_LIMIT }
-    ensures { Gives (λ l. (l, reader.new)) result (read (limits limited rows columns) reader.old) }
+    ensures gives { Gives (λ l. (l, reader.new)) result (read (limits limited rows columns) reader.old) }
+    ensures room { IfOk result (HasRoom rows columns) }
 {
     if limited {
         return given_limits(alloc, reader, rows, columns);
     }
-    Ok(Limits {
-        relations: Seq::from_vec(vec![in alloc; Relation::Eq; rows]?),
-        bounds: Seq::from_vec(vec![in alloc; None; columns]?),
-    })
+    let limits = plain_limits(alloc, rows, columns)?;
+    Ok(limits)
 }
 
 #[tactic(auto, using(ct_input::proofs::Parts::read_part), unfolding(crate::specs::FormText::form_text))]
 fn draft_in(alloc: Global, reader: &mut Reader) -> Result<FormDraft, InputStop>
-    ensures { Gives (λ d. (d, reader.new)) result (read form_text reader.old) }
+    ensures gives { Gives (λ d. (d, reader.new)) result (read form_text reader.old) }
+    ensures numbers { IfOk result AreNumbers }
 {
     reader.word(b"instance")?;
     let limited = is_limited(reader)?;
@@ -204,16 +215,43 @@ fn draft_in(alloc: Global, reader: &mut Reader) -> Result<FormDraft, InputStop>
     })
 }
 
-/// The numbers of a form file of at most 1,048,576 bytes, in one pass over its bytes. A row `le` or a bound that has no
-/// room, since the equality form would have more than 64 columns or 16 rows, is Limit. The memory that it takes is that
-/// of its at most 1,024 entries, 80 rows and columns, and 512 costs.
+// The numbers of a form file.
 #[tactic(auto, unfolding(crate::specs::Files::draft_file))]
-pub fn read_draft(alloc: Global, bytes: &[u8]) -> Result<FormDraft, InputStop>
-    ensures { Gives (λ draft. draft) result (draft_file bytes.now) }
+fn draft_of(alloc: Global, bytes: &[u8]) -> Result<FormDraft, InputStop>
+    ensures gives { Gives (λ draft. draft) result (draft_file bytes.now) }
+    ensures numbers { IfOk result AreNumbers }
 {
     if bytes.len() > INSTANCE_FILE_LIMIT {
         return Err(InputStop::Fault(Fault::TooLong));
     }
     let mut reader = Reader::new(bytes);
     draft_in(alloc, &mut reader)
+}
+
+/// The form of a file of at most 1,048,576 bytes, in one pass over its bytes. A row `le` or a bound that has no room,
+/// since the equality form would have more than 64 columns or 16 rows, is Limit. Where no token has a fault, a column that
+/// is zero and has no bound has one at its entry in row 1. The memory that it takes is that of the form, of its at most
+/// 1,024 entries and of its at most 512 costs.
+pub fn read_form(alloc: Global, bytes: &[u8]) -> Result<Form, InputStop>
+    ensures { Gives (λ form. form) result (form_file bytes.now) }
+{
+    let FormDraft {
+        rows,
+        columns,
+        entries,
+        limits,
+        costs,
+    } = draft_of(alloc, bytes)?;
+    let made = Form::new(
+        alloc,
+        rows as usize,
+        columns as usize,
+        entries.as_slice(),
+        limits,
+        costs.as_slice(),
+    );
+    match made {
+        Ok(form) => Ok(form),
+        Err(bad) => Err(refused(bytes, bad)),
+    }
 }

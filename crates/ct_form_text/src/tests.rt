@@ -1,7 +1,6 @@
 //! Texts from outside, with the faults that they have.
 
-use crate::read_draft;
-use ct_form::Relation;
+use crate::read_form;
 use ct_input::{Fault, InputStop, TextReason};
 use std::alloc::AllocError;
 use std::test::Fail;
@@ -53,7 +52,7 @@ fn faults_of_forms(rt: HostRuntime) -> Result<(), Fail> {
             at(1, 40, TextReason::Word),
         ),
     ] {
-        assert!(rt; fault_of(read_draft(rt.alloc(), text)) == fault);
+        assert!(rt; fault_of(read_form(rt.alloc(), text)) == fault);
     }
     Ok(())
 }
@@ -73,12 +72,12 @@ fn forms_with_no_room(rt: HostRuntime) -> Result<(), Fail> {
         text.extend_from_slice(b"bounds ")?;
         text.extend_from_slice(bound.as_bytes())?;
         text.extend_from_slice(b" cost 1 end")?;
-        assert!(rt; fault_of(read_draft(rt.alloc(), text.as_slice())) == fault);
+        assert!(rt; fault_of(read_form(rt.alloc(), text.as_slice())) == fault);
     }
     let mut text = Vec::from_slice(rt.alloc(), b"instance 2 rows 1 columns 64 matrix ")?;
     push_times(&mut text, b"1 ", 64)?;
     text.extend_from_slice(b"relations le")?;
-    assert!(rt; fault_of(read_draft(rt.alloc(), text.as_slice())) == at(1, 175, TextReason::Limit));
+    assert!(rt; fault_of(read_form(rt.alloc(), text.as_slice())) == at(1, 175, TextReason::Limit));
     Ok(())
 }
 
@@ -92,18 +91,14 @@ fn push_times(text: &mut Vec<u8>, part: &[u8], times: usize) -> Result<(), Alloc
 #[test]
 fn both_forms(rt: HostRuntime) -> Result<(), Fail> {
     let limited = b"instance 2 rows 1 columns 2 matrix 3 5 relations le bounds 2 - cost -2 -3 end";
-    let draft = read_draft(rt.alloc(), limited)
+    let form = read_form(rt.alloc(), limited)
         .ok()
         .ok_or("a text of form 2")?;
-    assert!(rt; draft.limits.relations.as_slice() == [Relation::Le].as_slice());
-    assert!(rt; draft.limits.bounds.as_slice() == [Some(2), None].as_slice());
-    assert!(rt; draft.entries.as_slice() == [3, 5].as_slice());
-    assert!(rt; draft.costs.as_slice() == [-2, -3].as_slice());
+    assert!(rt; form.bounds() == [2].as_slice());
+    assert_eq!(rt; form.columns(), 2);
     let plain = b"instance 1 rows 1 columns 2 matrix 3 5 cost 2 3 end";
-    let draft = read_draft(rt.alloc(), plain)
-        .ok()
-        .ok_or("a text of form 1")?;
-    assert!(rt; draft.limits.relations.as_slice() == [Relation::Eq].as_slice());
-    assert!(rt; draft.limits.bounds.as_slice() == [None, None].as_slice());
+    let form = read_form(rt.alloc(), plain).ok().ok_or("a text of form 1")?;
+    assert!(rt; form.bounds().is_empty());
+    assert_eq!(rt; form.rows(), 1);
     Ok(())
 }

@@ -2,7 +2,8 @@ use Rattle.std.proofs.Common.{◌≡◌, ◌-◌, ◌+◌, suc, sym, arith}
 use Rattle.std.proofs.lemmas.Result.{err_from_is_err_and}
 use Rattle.ct_input.specs.Grammar.{read}
 use Rattle.ct_input.proofs.Loops.{each_err, each_more, each_end}
-use Rattle.ct_form_text.specs.FormText.{given_of, bound, bounds}
+use Rattle.ct_form.specs.Made.{given_of}
+use Rattle.ct_form_text.specs.FormText.{bound, bounds}
 use Rattle.ct_form_text.proofs.form_text.bounds.Goals as goal
 
 pub returns-in_err-next : goal.returns-in_err-next

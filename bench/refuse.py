@@ -14,6 +14,8 @@ refused, only the latter.
 of 1, 5, 10 and 25, and two phases of two sessions in coins of 3 and 5, with walks. A run ends with the report that `answer`
 writes, or with status 7 and nothing written; where a thread is refused, with the report.
 
+`answer` of the second input and `best` of a request: a run ends with its text, or with status 7 and nothing written.
+
 `answer` and `serve` with a full device and with a pipe that was closed before the first byte end with status 6 and by no
 signal; with a pipe that is read one byte at a time they end with status 0, and all bytes came.
 
@@ -129,6 +131,10 @@ def main():
             for way in WAYS:
                 words = [bench, file("instance", instance), grade, way, "1"]
                 refuse(f"{name} up to {grade} by {way}", words, library, ERROR, whole_output(words))
+        sets = [["answer", THREES, PHASES, "--walks"], ["best", THREES, "sessions 1 phase 0 session solve 30 end", "3"]]
+        for command, instance, sessions, option in sets:
+            words = [ct, command, file("instance", instance), file("sessions", sessions), option]
+            refuse(command, words, library, MEMORY, whole_output(words))
         for name, instance, sessions, options in INPUTS:
             files = [file("instance", instance), file("sessions", sessions), *options]
             report = whole_output([ct, "answer", *files])

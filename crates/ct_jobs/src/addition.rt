@@ -5,7 +5,7 @@ ghost use Rattle.ct_jobs.specs.Kept.{pair_of};
 ghost use Rattle.ct_jobs.specs.Supports.{supports_between};
 
 use crate::graded::GradedPair;
-use crate::supports::{Supports, grade_with};
+use crate::supports::Supports;
 use ct_instance::Instance;
 use ct_walk::Moves;
 use std::alloc::{AllocError, Global};
@@ -93,12 +93,10 @@ fn add_row(
 {
     // For its facts alone: these are moves of the instance, within the limits.
     let _instance = moves.instance();
-    let head = moves.get(i).head();
-    let own = inst.grade(head);
+    let own = inst.grade(moves.get(i).head());
     let known = from.saturating_sub(1);
     for k in i.max(known)..moves.len() {
-        let later = supports.get((k - known) as usize);
-        let grade = grade_with(own, later, head.as_slice());
+        let grade = supports.pair_grade(moves, known, i, k, own);
         pairs.push(GradedPair {
             grade,
             first: i,

@@ -24,3 +24,4 @@ pub use buckets::Buckets;
 pub use critical::{coprime, ends, ends_into, job_grade};
 pub use graded::GradedJob;
 pub use reducing::reduce_job;
+pub use supports::Supports;

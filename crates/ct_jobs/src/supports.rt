@@ -1,8 +1,10 @@
 //! The supports of heads: the coordinates that aren't 0, of which there are few.
 ghost use Rattle.std.specs.Prelude.{◌≡◌, ◌+◌, ◌≤◌, ◌<◌, ◌^◌, ◌++◌, ◌∷◌, [], length, All, slice_index_or, IfOk, OnOk, sum_by};
+ghost use Rattle.ct_instance.specs.Instance.{grade_of};
+ghost use Rattle.ct_instance.specs.Jobs.{the_move, job_grade_of};
 ghost use Rattle.ct_jobs.specs.Supports.{excess_over, support, supports_between};
 
-use ct_instance::Instance;
+use ct_instance::{Instance, Job};
 use ct_walk::Moves;
 use std::alloc::{AllocError, Global};
 use std::marker::Model;
@@ -27,7 +29,7 @@ pub struct Span {
     pub end: usize,
 }
 
-// The supports of a list of heads: 24 bytes a part and 16 a head.
+/// The supports of a list of heads: 24 bytes for each coordinate that isn't 0, and 16 a head.
 #[derive(Debug, Drop)]
 pub struct Supports {
     parts: Vec<Part>,
@@ -47,7 +49,7 @@ impl Model for Supports {
 }
 
 impl Supports {
-    // The supports of the heads of the moves after the first `known`.
+    /// The supports of the heads of the moves after the first `known`.
     pub fn of_new_moves(
         alloc: Global,
         inst: &Instance,
@@ -79,8 +81,26 @@ impl Supports {
         Ok(())
     }
 
+    /// The grade of the pair of the move i, whose head has the grade `own`, and of the first move after `before` others,
+    /// among the moves after the first `known`: `own`, and what the later head has beyond the earlier one. It is linear in
+    /// the later head's coordinates that aren't 0.
+    pub fn pair_grade(&self, moves: &Moves, known: u32, i: u32, before: u32, own: u64) -> u64
+        requires supports { self.now ≡ supports_between moves.now.instance moves.now.moves known (length moves.now.moves) }
+        requires some { 1 ≤ i }
+        requires earlier { i ≤ before }
+        requires new { known ≤ before }
+        requires in_list { before < length moves.now.moves }
+        requires own { own ≡ grade_of moves.now.instance.columns (the_move moves.now.moves i).head }
+        ensures { result ≡ job_grade_of moves.now.instance moves.now.moves (Job.Pair i (before + 1)) }
+    {
+        // For its facts alone: these are moves of the instance, within the limits.
+        let _instance = moves.instance();
+        let later = self.get((before - known) as usize);
+        grade_with(own, later, moves.get(i).head().as_slice())
+    }
+
     // The support of the head with this index, from 0.
-    pub fn get(&self, index: usize) -> &[Part]
+    fn get(&self, index: usize) -> &[Part]
         requires { index < length self.now }
         ensures { result.now ≡ slice_index_or self.now index [] }
     {
@@ -109,7 +129,7 @@ fn push_support(parts: &mut Vec<Part>, sums: &[u64], head: &[u64]) -> Result<(),
 }
 
 // A grade, and what these parts have beyond a point.
-pub fn grade_with(own: u64, parts: &[Part], p: &[u64]) -> u64
+fn grade_with(own: u64, parts: &[Part], p: &[u64]) -> u64
     requires places { All (λ t. t.place < length p.now) parts.now }
     requires fits { own + sum_by (excess_over p.now) parts.now < 2 ^ 64 }
     ensures { result ≡ own + sum_by (excess_over p.now) parts.now }

@@ -1,7 +1,7 @@
 //! What is kept of the jobs of a list of moves.
 ghost use Rattle.std.specs.Prelude.{◌≡◌, ◌≤◌, ◌<◌, ◌++◌, ◌∷◌, [], List, Some, Contains, OnOk};
 ghost use Rattle.ct_instance.specs.TestSet.{Binomial};
-ghost use Rattle.ct_instance.specs.Jobs.{IsJob};
+ghost use Rattle.ct_instance.specs.Jobs.{IsJob, job_grade_of};
 ghost use Rattle.ct_jobs.specs.declared.graded.GradedJob.{GradedJob};
 ghost use Rattle.ct_jobs.specs.GradedJobs.{with_grade, next_grade};
 ghost use Rattle.std.specs.Ordering.{nat_cmp};
@@ -9,7 +9,7 @@ ghost use Rattle.std.specs.BTreeMap.{Updates};
 ghost use Rattle.ct_solo.specs.Agendas.{IsAgenda, IsPut, IsLesserOf, jobs_of, unless};
 
 use ct_instance::Job;
-use ct_jobs::{coprime, job_grade};
+use ct_jobs::coprime;
 use ct_walk::Moves;
 use std::alloc::{AllocError, Global};
 use std::collections::BTreeMap;
@@ -45,14 +45,14 @@ impl Agenda {
         }
     }
 
-    // Takes a job of the list in.
-    pub fn take_in(&mut self, moves: &Moves, job: Job) -> Result<(), AllocError>
-        requires { IsJob moves.now.instance moves.now.moves job }
+    // Takes a job of the list in, which has this grade.
+    pub fn take_in(&mut self, moves: &Moves, job: Job, grade: u64) -> Result<(), AllocError>
+        requires job { IsJob moves.now.instance moves.now.moves job }
+        requires grade { grade ≡ job_grade_of moves.now.instance moves.now.moves job }
         ensures taken { OnOk result ((js : List GradedJob) → IsAgenda moves.now.moves js self.old → IsAgenda moves.now.moves (js ++ with_grade moves.now.instance moves.now.moves job ∷ []) self.new) }
         ensures opened { self.new.opened ≡ self.old.opened }
         ensures top { self.new.top ≡ self.old.top }
     {
-        let grade = job_grade(moves.instance(), moves, job);
         if self.top < grade {
             self.beyond = Some(lesser(self.beyond, grade));
             return Ok(());

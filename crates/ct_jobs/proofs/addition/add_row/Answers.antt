@@ -1,47 +1,41 @@
-use Rattle.std.proofs.Common.{ℕ, ◌≡◌, ◌≤◌, ◌<◌, ◌+◌, ◌-◌, ◌++◌, ◌∷◌, [], map, max, length, get_or, sym, ap, ap₂, ◌∙◌, arith, append_assoc}
+use Rattle.std.proofs.Common.{ℕ, ◌≡◌, ◌≤◌, ◌<◌, ◌+◌, ◌-◌, ◌++◌, ◌∷◌, [], map, max, length, sym, ap, ap₂, ◌∙◌, arith, append_assoc}
 use Rattle.std.proofs.lemmas.List.{map-append}
 use Rattle.ct_instance.specs.declared.jobs.Job.TheVariants.{Pair}
+use Rattle.ct_instance.specs.Instance.{Problem, grade_of}
+use Rattle.ct_instance.specs.Jobs.{job_grade_of}
 use Rattle.ct_jobs.specs.GradedJobs.{with_grade, row_from}
+use Rattle.ct_jobs.specs.Supports.{supports_between}
 use Rattle.ct_jobs.specs.Kept.{pair_of}
-use Rattle.ct_jobs.proofs.GradesBySupport.{found_makes_grade, length-supports}
 use Rattle.ct_jobs.proofs.Rows.{row_push, row_end}
 use Rattle.ct_jobs.proofs.addition.add_row.Goals as goal
 
-pub get-later-requires : goal.get-later-requires
-get-later-requires c =
-    let n : ℕ = length c.args.moves.now.moves in
-    omega (arith, ap length c.requires.supports, length-supports c.args.inst.now c.args.moves.now.moves (c.args.from - 1) n)
-
-pub grade_with-grade-requires : goal.grade_with-grade-requires
-grade_with-grade-requires c =
+pub pair_grade-grade-requires : goal.pair_grade-grade-requires
+pair_grade-grade-requires c =
     let l = c.args.moves.now in
-    let a : ℕ = c.args.i in
-    let k : ℕ = c.loop-k.k in
-    let known : ℕ = c.args.from - 1 in
-    let found = c.get-later.ensures ∙ ap (λ n. get_or c.args.supports.now (k - n) []) (let e : c.saturating_sub-known.result ≡ known = omega arith in e) in
-    let made = found_makes_grade l c.instance-instance.ensures.checked c.args.inst.now c.requires.instance known a k c.requires.some (omega arith) (omega arith) (omega arith)
-    c.grade-own.result c.as_slice.result.now c.head-head.result.now c.as_slice.ensures.coordinates (c.head-head.ensures ∙ ap (λ m. m.head) c.get.ensures.at) c.grade-own.ensures
-    c.args.supports.now c.requires.supports c.get-later.result.now found in
-    record { places = made.places; fits = omega (arith, made.sum, made.limit) }
+    let n : ℕ = length l.moves in
+    let e : c.saturating_sub-known.result ≡ c.args.from - 1 = omega arith in
+    record {
+      supports = c.requires.supports ∙ ap₂ (λ j a. supports_between j l.moves a n) (sym c.requires.instance) (sym e);
+      some = c.requires.some;
+      earlier = omega arith;
+      new = omega arith;
+      in_list = omega arith;
+      own = c.grade-own.ensures ∙ ap₂ (λ (j : Problem) p. grade_of j.columns p) (sym c.requires.instance) (c.head.ensures ∙ ap (λ m. m.head) c.get.ensures.at);
+    }
 
 pub loop-k-preserved : goal.loop-k-preserved
 loop-k-preserved c =
     let l = c.args.moves.now in
     let a : ℕ = c.args.i in
     let k : ℕ = c.loop-k.k in
-    let known : ℕ = c.args.from - 1 in
-    let found = c.get-later.ensures ∙ ap (λ n. get_or c.args.supports.now (k - n) []) (let e : c.saturating_sub-known.result ≡ known = omega arith in e) in
-    let made = found_makes_grade l c.instance-instance.ensures.checked c.args.inst.now c.requires.instance known a k c.requires.some (omega arith) (omega arith) (omega arith)
-    c.grade-own.result c.as_slice.result.now c.head-head.result.now c.as_slice.ensures.coordinates (c.head-head.ensures ∙ ap (λ m. m.head) c.get.ensures.at) c.grade-own.ensures
-    c.args.supports.now c.requires.supports c.get-later.result.now found in
     let i = c.args.inst.now in
     let ms = l.moves in
     let from : ℕ = c.args.from in
     let old = map pair_of c.args.pairs.now.items in
     let low : max a (from - 1) ≤ k = omega arith in
     record {
-      pairs = ap (map pair_of) c.in_ok-push.ensures.items ∙ map-append pair_of c.loop-k.pairs.items (record { grade = c.grade_with-grade.result; first = a; second = k + 1 } ∷ []) ∙
-          ap₂ (λ l g. l ++ record { grade = g; job = Pair a (k + 1) } ∷ []) c.loop-k.invariant.pairs (c.grade_with-grade.ensures ∙ made.sum) ∙
+      pairs = ap (map pair_of) c.in_ok-push.ensures.items ∙ map-append pair_of c.loop-k.pairs.items (record { grade = c.pair_grade-grade.result; first = a; second = k + 1 } ∷ []) ∙
+          ap₂ (λ l g. l ++ record { grade = g; job = Pair a (k + 1) } ∷ []) c.loop-k.invariant.pairs (c.pair_grade-grade.ensures ∙ ap (λ j. job_grade_of j ms (Pair a (k + 1))) c.requires.instance) ∙
           append_assoc old (map (with_grade i ms) (row_from from a k)) (with_grade i ms (Pair a (k + 1)) ∷ []) ∙
           ap (λ l. old ++ l) (sym (map-append (with_grade i ms) (row_from from a k) (Pair a (k + 1) ∷ [])) ∙ ap (map (with_grade i ms)) (sym (row_push from a k low)));
       start = λ h. absurd (let n : k < length ms = omega arith in omega arith);

@@ -26,7 +26,8 @@ pub fn take_generators(agenda: &mut Agenda, moves: &Moves) -> Result<(), AllocEr
     Ok(())
 }
 
-// Takes in the pairs of the moves whose greater number is at least `from`.
+// Takes in the pairs of the moves whose greater number is at least `from`. Where no move has such a number, which is so of
+// most versions where each pair has a grade of its own, it looks at none.
 pub fn take_pairs(agenda: &mut Agenda, moves: &Moves, from: u32) -> Result<(), AllocError>
     requires from { 1 ≤ from }
     requires within { from - 1 ≤ length moves.now.moves }
@@ -34,6 +35,9 @@ pub fn take_pairs(agenda: &mut Agenda, moves: &Moves, from: u32) -> Result<(), A
     ensures opened { agenda.new.opened ≡ agenda.old.opened }
     ensures top { agenda.new.top ≡ agenda.old.top }
 {
+    if from > moves.len() {
+        return Ok(());
+    }
     let supports = Supports::of_new_moves(agenda.alloc, moves.instance(), moves, from - 1)?;
     for i in 0..moves.len() {
         take_row(agenda, moves, from, &supports, i + 1)?;

@@ -1,9 +1,17 @@
 use Rattle.std.proofs.Common.{◌≡◌, ◌++◌, ℕ, List, length, sym, ap, subst, ◌∙◌, arith}
 use Rattle.ct_jobs.specs.declared.graded.GradedJob.{GradedJob}
-use Rattle.ct_jobs.proofs.Rows.{rows_all}
+use Rattle.std.proofs.lemmas.List.{append-nil}
+use Rattle.ct_jobs.proofs.Rows.{rows_all, rows_none}
 use Rattle.ct_solo.specs.Agendas.{IsAgenda}
 use Rattle.ct_solo.proofs.Fillings.{rows_to, one_row_more}
 use Rattle.ct_solo.proofs.filling.take_pairs.Goals as goal
+
+pub returns-then-from-len-clause-taken : goal.returns-then-from-len-clause-taken
+returns-then-from-len-clause-taken c js h =
+    let i = c.args.moves.now.instance in
+    let ms = c.args.moves.now.moves in
+    let none = rows_none i ms c.args.from (omega arith) in
+    subst (λ (ks : List GradedJob). IsAgenda ms ks c.args.agenda.now) (sym (ap (λ ks. js ++ ks) none ∙ append-nil js)) h
 
 pub loop-i-preserved : goal.loop-i-preserved
 loop-i-preserved c =

@@ -81,7 +81,7 @@ impl Solver {
             }
             Err(Stop::Full(mark)) => {
                 let moves = mark.version.moves().len();
-                let level = Finished::Upto(mark.grade.saturating_sub(1));
+                let level = Finished::below(Some(mark.grade));
                 Ok((Solver { solo }, Extent { moves, level }))
             }
             Err(Stop::Memory) => Err(AllocError),
@@ -138,7 +138,7 @@ impl Solver {
     {
         match self.help(alloc, grade) {
             Ok(helped) => Ok(helped.level),
-            Err(Stop::Full(mark)) => Ok(Finished::Upto(mark.grade.saturating_sub(1))),
+            Err(Stop::Full(mark)) => Ok(Finished::below(Some(mark.grade))),
             Err(Stop::Memory) => Err(AllocError),
         }
     }

@@ -14,11 +14,11 @@ use Rattle.ct_jobs.specs.GradedJobs.{AreJobsOf, graded_pairs_from, next_grade}
 use Rattle.ct_jobs.proofs.Growing.{jobs_grow}
 use Rattle.ct_completion.specs.Machine.{opened_jobs}
 use Rattle.ct_completion.specs.Remainders.{points_of}
-use Rattle.ct_version.specs.Editions.{Edition}
+use Rattle.ct_version.specs.Editions.{Edition, level_below}
 use Rattle.ct_book.specs.declared.queue.Slot.{Slot}
 use Rattle.ct_book.specs.Queues.{QueueSeen, slot_seen}
 use Rattle.ct_book.specs.Insides.{fresh}
-use Rattle.ct_book.specs.Openings.{left_in, level_below, HasOpenedJobs}
+use Rattle.ct_book.specs.Openings.{left_in, HasOpenedJobs}
 use Rattle.ct_book.proofs.OpeningGrades.{opens_next, level_next_below}
 
 -- ---- points of slots

@@ -15,12 +15,12 @@ use Rattle.ct_completion.specs.Machine.{CompletionState, just_opened, opened_job
 use Rattle.ct_completion.specs.Journal.{IsReplay}
 use Rattle.ct_completion.specs.Kept.{AreLevels}
 use Rattle.ct_version.specs.declared.finished.Finished.{Finished}
-use Rattle.ct_version.specs.Editions.{Edition, IsEdition, level_seen}
+use Rattle.ct_version.specs.Editions.{Edition, IsEdition, level_seen, level_below}
 use Rattle.ct_book.specs.Logs.{LogSeen}
 use Rattle.ct_book.specs.Queues.{QueueSeen}
 use Rattle.ct_book.specs.Books.{BookSeen}
 use Rattle.ct_book.specs.Insides.{IsBook, book_in, state_in, fresh}
-use Rattle.ct_book.specs.Openings.{level_below, HasOpenedJobs}
+use Rattle.ct_book.specs.Openings.{HasOpenedJobs}
 use Rattle.ct_book.proofs.Keeping.{inside_of}
 use Rattle.ct_book.proofs.FreshBooks.{fresh_book, fresh_state, opening_replay}
 

@@ -1,19 +1,14 @@
 -- The level and the jobs that a list of moves opens.
-use Rattle.std.specs.Prelude.{ℕ, ◌-◌, ◌≡◌, Option, Some, None, List, map}
+use Rattle.std.specs.Prelude.{ℕ, ◌≡◌, Option, None, List, map}
 use Rattle.std.specs.Option.{unwrap_or}
 use Rattle.ct_instance.specs.Instance.{Problem}
-use Rattle.ct_instance.specs.Versions.{Level, upto, everything, version_list}
+use Rattle.ct_instance.specs.Versions.{version_list}
 use Rattle.ct_instance.specs.Reach.{opened_grade}
 use Rattle.ct_jobs.specs.declared.graded.GradedJob.{GradedJob}
 use Rattle.ct_jobs.specs.GradedJobs.{AreJobsOf}
 use Rattle.ct_completion.specs.Machine.{opened_jobs}
 use Rattle.ct_book.specs.Queues.{QueueSeen}
 use Rattle.ct_book.specs.Insides.{fresh}
-
--- the level below the next grade, and everything where there is none
-abbrev pub level_below : Option ℕ → Level
-level_below None = everything
-level_below (Some g) = upto (g - 1)
 
 -- the queue has the jobs of the grade that version k opens, if these are the jobs of its list and this is that grade
 abbrev pub HasOpenedJobs : List GradedJob → Option ℕ → QueueSeen → Type 0

@@ -5,9 +5,9 @@ ghost use Rattle.ct_instance.specs.Instance.{Problem};
 ghost use Rattle.ct_instance.specs.TestSet.{Binomial};
 ghost use Rattle.ct_instance.specs.Jobs.{jobs_at};
 ghost use Rattle.ct_jobs.specs.GradedJobs.{next_grade, AreJobsOf};
-ghost use Rattle.ct_version.specs.Editions.{level_seen};
+ghost use Rattle.ct_version.specs.Editions.{level_seen, level_below};
 ghost use Rattle.ct_book.specs.Insides.{fresh};
-ghost use Rattle.ct_book.specs.Openings.{level_below, HasOpenedJobs};
+ghost use Rattle.ct_book.specs.Openings.{HasOpenedJobs};
 
 use crate::queue::Queue;
 use ct_jobs::{Addition, Buckets};
@@ -63,7 +63,7 @@ fn grade_opened(
     let jobs = buckets.jobs_with(alloc, grade, more)?;
     let queue = Queue::new(alloc, jobs)?;
     Ok(Opening {
-        finished: Finished::Upto(grade.saturating_sub(1)),
+        finished: Finished::below(Some(grade)),
         queue,
     })
 }

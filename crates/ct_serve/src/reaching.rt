@@ -37,7 +37,7 @@ pub fn reach<R: Wait, G>(
             level: helped.level,
         }),
         Err(Stop::Full(mark)) => Ok(Held {
-            level: Finished::Upto(mark.grade.saturating_sub(1)),
+            level: Finished::below(Some(mark.grade)),
             version: mark.version,
         }),
         Err(Stop::Memory) => Err(AllocError),

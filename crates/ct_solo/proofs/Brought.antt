@@ -33,11 +33,11 @@ use Rattle.ct_completion.specs.Machine.{opened_jobs}
 use Rattle.ct_completion.specs.Remainders.{points_of, IsGroupMove}
 use Rattle.ct_completion.proofs.Remainders.{opened_is}
 use Rattle.ct_groups.specs.Groups.{IsSmallPoint}
-use Rattle.ct_version.specs.Editions.{Edition}
+use Rattle.ct_version.specs.Editions.{Edition, level_below}
 use Rattle.ct_solo.specs.declared.agenda.Agenda.{Agenda}
 use Rattle.ct_solo.specs.Agendas.{look, jobs_of, IsAgenda}
 use Rattle.ct_solo.specs.Leaving.{LeavesPoints, IsSmallJob}
-use Rattle.ct_solo.specs.Insides.{HasAgenda, level_below}
+use Rattle.ct_solo.specs.Insides.{HasAgenda}
 use Rattle.ct_solo.proofs.AgendaFacts.{graded, same_agenda, longer_agenda}
 use Rattle.ct_solo.proofs.KeptJobs.{next_from_kept}
 

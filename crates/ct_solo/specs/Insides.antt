@@ -1,7 +1,7 @@
 -- What a solo keeps, over plain data.
-use Rattle.std.specs.Prelude.{ℕ, ◌-◌, ◌≤◌, ◌≡◌, Bool, true, Option, None, Some, List, length, map}
+use Rattle.std.specs.Prelude.{ℕ, ◌≤◌, ◌≡◌, Bool, true, Some, List, length, map}
 use Rattle.ct_vectors.specs.declared.limits.TheConstants.{GRADE_LIMIT, MOVE_LIMIT}
-use Rattle.ct_instance.specs.Versions.{Level, upto, everything, version_list, IsFullGrade}
+use Rattle.ct_instance.specs.Versions.{version_list, IsFullGrade}
 use Rattle.ct_instance.specs.Reach.{opened_grade, last_opened}
 use Rattle.ct_jobs.specs.GradedJobs.{graded_jobs}
 use Rattle.ct_completion.specs.Kept.{AreLevels}
@@ -37,8 +37,3 @@ pub record IsSolo (x : Insides) : Type 0 where
   pub levels : AreLevels (x.version).instance (x.version).number (map level_seen x.levels)
   pub marked : x.full ≡ true → (d : ℕ) × (opened_grade (x.version).instance (x.version).number ≡ Some d) × IsFullGrade (x.version).instance x.limit d
   pub agenda : x.whole ≡ true → HasAgenda x.version x.agenda
-
--- the level below the next grade, and everything where there is none
-abbrev pub level_below : Option ℕ → Level
-level_below None = everything
-level_below (Some g) = upto (g - 1)

@@ -5,7 +5,7 @@ ghost use Rattle.ct_vectors.specs.declared.limits.TheConstants.{GRADE_LIMIT, MOV
 use crate::agenda::Agenda;
 use crate::filling::take_generators;
 use crate::handing::{helped, marked};
-use crate::steps::{following, level_before, moves_brought, shared};
+use crate::steps::{following, moves_brought, shared};
 use ct_instance::Instance;
 use ct_version::{Finished, FullMark, Helped, Stop, Version};
 use ct_walk::Moves;
@@ -65,7 +65,7 @@ impl Solo {
         let moves = Moves::new(alloc, inst);
         let mut agenda = Agenda::new(alloc, top);
         take_generators(&mut agenda, &moves)?;
-        let finished = level_before(agenda.next());
+        let finished = Finished::below(agenda.next());
         let levels = only(alloc, finished)?;
         let version = shared(alloc, Version::new(moves, 0, finished))?;
         // For its facts alone: there is such a version.

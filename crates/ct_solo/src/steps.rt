@@ -4,8 +4,7 @@ ghost use Rattle.std.specs.Arc.{arc_value};
 ghost use Rattle.ct_vectors.specs.declared.limits.TheConstants.{GRADE_LIMIT, MOVE_LIMIT};
 ghost use Rattle.ct_instance.specs.Versions.{upto, level_of, version_list};
 ghost use Rattle.ct_walk.specs.Moves.{IsSmallMove};
-ghost use Rattle.ct_version.specs.Editions.{level_seen};
-ghost use Rattle.ct_solo.specs.Insides.{HasAgenda, level_below};
+ghost use Rattle.ct_solo.specs.Insides.{HasAgenda};
 
 use crate::agenda::Agenda;
 use crate::filling::take_pairs;
@@ -55,7 +54,7 @@ pub fn following(
     let moves = before.extended(alloc, new)?;
     agenda.close(opened_by(version));
     take_pairs(agenda, &moves, before.len() + 1)?;
-    let finished = level_before(agenda.next());
+    let finished = Finished::below(agenda.next());
     shared(alloc, Version::new(moves, version.number() + 1, finished))
 }
 
@@ -69,16 +68,6 @@ fn opened_by(version: &Version) -> u64
     match version.finished() {
         Finished::All => unreachable!(),
         Finished::Upto(level) => level + 1,
-    }
-}
-
-// The level below the next grade.
-pub fn level_before(next: Option<u64>) -> Finished
-    ensures { level_seen result ≡ level_below next }
-{
-    match next {
-        None => Finished::All,
-        Some(grade) => Finished::Upto(grade.saturating_sub(1)),
     }
 }
 

@@ -1,7 +1,7 @@
 //! How far a version is finished.
-ghost use Rattle.std.specs.Prelude.{IsTrue, ◌↔◌};
+ghost use Rattle.std.specs.Prelude.{◌≡◌, IsTrue, ◌↔◌};
 ghost use Rattle.ct_instance.specs.Versions.{Covers};
-ghost use Rattle.ct_version.specs.Editions.{level_seen};
+ghost use Rattle.ct_version.specs.Editions.{level_seen, level_below};
 
 /// The level of a version: the grades for which its list of moves is the whole test list.
 #[derive(Clone, Copy, Debug, PartialEq, Eq)]
@@ -13,6 +13,16 @@ pub enum Finished {
 }
 
 impl Finished {
+    /// The level below the next grade for which the list isn't finished, or each grade where there is none. No next grade is 0.
+    pub fn below(next: Option<u64>) -> Finished
+        ensures { level_seen result ≡ level_below next }
+    {
+        match next {
+            None => Finished::All,
+            Some(grade) => Finished::Upto(grade.saturating_sub(1)),
+        }
+    }
+
     /// Whether the level is at least g.
     pub fn covers(&self, g: u64) -> bool
         ensures { IsTrue result ↔ Covers (level_seen self.now) g }

@@ -82,7 +82,7 @@ new-requires-clause-level c =
     agenda_next v a o after new n b (c.len.result + 1) from
     (c.in_ok-take_pairs.ensures.taken (graded_jobs v.instance ms) (agenda_closed v a o after new n c.close.new.self closed))
     (c.take_pairs.ensures.opened ∙ c.close.ensures.opened ∙ at) in
-    c.level_before-finished.ensures ∙ level_from_agenda (edition v.instance (suc v.number)) b (next_is_version v a o after new n) has c.next.result c.next.ensures ∙
+    c.below-finished.ensures ∙ level_from_agenda (edition v.instance (suc v.number)) b (next_is_version v a o after new n) has c.next.result c.next.ensures ∙
     ap₂ level_of (sym n.instance) number
 
 pub returns-clause-agenda : goal.returns-clause-agenda

@@ -20,15 +20,15 @@ new-requires-clause-level c =
     let i = c.new-moves.result.instance in
     let a = c.take_generators.new.agenda in
     let has : HasAgenda (first_of i) a = agenda_at_zero i a (c.in_ok-take_generators.ensures.taken (c.new-agenda.ensures.none [])) (c.take_generators.ensures.opened ∙ c.new-agenda.ensures.opened) in
-    c.level_before-finished.ensures ∙ level_from_agenda (first_of i) a tt has c.next.result c.next.ensures
+    c.below-finished.ensures ∙ level_from_agenda (first_of i) a tt has c.next.result c.next.ensures
 
 pub invariant_of-result : goal.invariant_of-result
 invariant_of-result c =
     let i = c.new-moves.result.instance in
     let a = c.take_generators.new.agenda in
     let has : HasAgenda (first_of i) a = agenda_at_zero i a (c.in_ok-take_generators.ensures.taken (c.new-agenda.ensures.none [])) (c.take_generators.ensures.opened ∙ c.new-agenda.ensures.opened) in
-    let level : level_seen c.level_before-finished.result ≡ level_of i 0 =
-    c.level_before-finished.ensures ∙ level_from_agenda (first_of i) a tt has c.next.result c.next.ensures in
+    let level : level_seen c.below-finished.result ≡ level_of i 0 =
+    c.below-finished.ensures ∙ level_from_agenda (first_of i) a tt has c.next.result c.next.ensures in
     let top : a.top ≡ c.args.top = c.take_generators.ensures.top ∙ c.new-agenda.ensures.top in
     zero_solo i (arc_value c.in_ok-version.version) (c.in_ok-version.ensures ∙ c.new.ensures) (subst IsEdition c.deref.ensures c.number-number.ensures.version)
-    c.args.limit c.requires.most a (omega (arith, top, c.requires.top)) c.in_ok-levels.levels.items c.level_before-finished.result c.in_ok-levels.ensures level has
+    c.args.limit c.requires.most a (omega (arith, top, c.requires.top)) c.in_ok-levels.levels.items c.below-finished.result c.in_ok-levels.ensures level has

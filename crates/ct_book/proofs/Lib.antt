@@ -2,7 +2,6 @@ pub mod Logs
 pub mod Queues
 pub mod OpenedJobs
 pub mod Keeping
-pub mod LevelsSoFar
 pub mod FreshBooks
 pub mod OpeningGrades
 pub mod NextVersions

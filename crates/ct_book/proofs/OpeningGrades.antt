@@ -15,6 +15,7 @@ use Rattle.ct_completion.specs.Machine.{CompletionState, just_opened, opened_job
 use Rattle.ct_completion.specs.Journal.{IsReplay}
 use Rattle.ct_completion.specs.Kept.{AreLevels}
 use Rattle.ct_version.specs.declared.finished.Finished.{Finished}
+use Rattle.ct_handing.proofs.LevelsSoFar.{under_is_below}
 use Rattle.ct_version.specs.Editions.{Edition, IsEdition, level_seen, level_below}
 use Rattle.ct_book.specs.Logs.{LogSeen}
 use Rattle.ct_book.specs.Queues.{QueueSeen}
@@ -24,17 +25,13 @@ use Rattle.ct_book.specs.Openings.{HasOpenedJobs}
 use Rattle.ct_book.proofs.Keeping.{inside_of}
 use Rattle.ct_book.proofs.FreshBooks.{fresh_book, fresh_state, opening_replay}
 
-same_level : (o : Option ℕ) → level_under o ≡ level_below o
-same_level None = refl
-same_level (Some g) = refl
-
 module _ (i : Problem) (k : ℕ) (v : IsVersion i k) (js : List GradedJob) (are : AreJobsOf i (version_list i k) js) where
   pub opens_next : opened_grade i k ≡ next_grade (last_opened i k) js
   opens_next = opened_is_next i k v ∙ sym (next_grade_of_all i (version_list i k) js (last_opened i k) are)
 
   pub level_next_below : level_of i k ≡ level_below (next_grade (last_opened i k) js)
   level_next_below =
-      level_is i k v ∙ ap level_under (sym (next_grade_of_all i (version_list i k) js (last_opened i k) are)) ∙ same_level (next_grade (last_opened i k) js)
+      level_is i k v ∙ ap level_under (sym (next_grade_of_all i (version_list i k) js (last_opened i k) are)) ∙ under_is_below (next_grade (last_opened i k) js)
 
 -- the empty list
 jobs_of_none : (i : Problem) (js none : List GradedJob) → AreJobsOf i [] js → none ≡ [] → AreJobsOf i (version_list i 0) (js ++ none)

@@ -4,6 +4,5 @@ pub mod Tasks
 pub mod Books
 pub mod Batches
 pub mod Insides
-pub mod Handing
 pub mod Openings
 pub mod Benches

@@ -4,15 +4,15 @@ ghost use Rattle.ct_vectors.specs.declared.limits.TheConstants.{GRADE_LIMIT, MOV
 
 use crate::batches::{Batch, Reduced, hand_out_beside, take_in_all};
 use crate::completing::complete;
-use crate::handing::{helped, marked};
 use crate::log::Log;
-use crate::opening::{Opening, opened_above, shared};
+use crate::opening::{Opening, opened_above};
 use crate::outcomes::{Committed, Next, Published, Step};
 use crate::publishing::{Following, moves_left, next_version};
 use crate::queue::Queue;
 use crate::remainders::{Left, Remainder};
 use crate::tasks::{PlacedJob, Task};
 use ct_completion::{Act, Entry};
+use ct_handing::{helped, marked, shared};
 use ct_instance::Instance;
 use ct_jobs::{Addition, Buckets};
 use ct_version::{Finished, Helped, Stop, Version};

@@ -6,7 +6,6 @@ mod benches;
 mod books;
 mod completing;
 mod ends;
-mod handing;
 mod log;
 mod opening;
 mod outcomes;

@@ -1,6 +1,5 @@
 //! Opening a grade.
 ghost use Rattle.std.specs.Prelude.{◌≡◌, ◌++◌, [], List, None, Some, IfOk};
-ghost use Rattle.std.specs.Arc.{arc_value};
 ghost use Rattle.ct_instance.specs.Instance.{Problem};
 ghost use Rattle.ct_instance.specs.TestSet.{Binomial};
 ghost use Rattle.ct_instance.specs.Jobs.{jobs_at};
@@ -11,9 +10,8 @@ ghost use Rattle.ct_book.specs.Openings.{HasOpenedJobs};
 
 use crate::queue::Queue;
 use ct_jobs::{Addition, Buckets};
-use ct_version::{Finished, Version};
+use ct_version::Finished;
 use std::alloc::{AllocError, Global};
-use std::sync::Arc;
 
 // The level up to the grade that is opened, and the jobs of that grade.
 #[derive(Drop)]
@@ -66,14 +64,4 @@ fn grade_opened(
         finished: Finished::below(Some(grade)),
         queue,
     })
-}
-
-// The version, shared.
-pub fn shared(alloc: Global, version: Version) -> Result<Arc<Version>, AllocError>
-    ensures { IfOk result (λ a. arc_value a ≡ version) }
-{
-    match Arc::new(alloc, version) {
-        Ok(made) => Ok(made),
-        Err(_) => Err(AllocError),
-    }
 }

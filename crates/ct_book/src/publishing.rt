@@ -15,9 +15,10 @@ ghost use Rattle.ct_book.specs.Queues.{slot_seen};
 ghost use Rattle.ct_book.specs.Insides.{fresh};
 ghost use Rattle.ct_book.specs.Openings.{left_in};
 
-use crate::opening::{Opening, opened_above, shared};
+use crate::opening::{Opening, opened_above};
 use crate::queue::{Queue, Slot};
 use ct_groups::new_moves;
+use ct_handing::shared;
 use ct_instance::Instance;
 use ct_jobs::{Addition, Buckets};
 use ct_point::Point;

@@ -33,6 +33,7 @@ use Rattle.ct_completion.specs.Machine.{opened_jobs}
 use Rattle.ct_completion.specs.Remainders.{points_of, IsGroupMove}
 use Rattle.ct_completion.proofs.Remainders.{opened_is}
 use Rattle.ct_groups.specs.Groups.{IsSmallPoint}
+use Rattle.ct_handing.proofs.LevelsSoFar.{under_is_below}
 use Rattle.ct_version.specs.Editions.{Edition, level_below}
 use Rattle.ct_solo.specs.declared.agenda.Agenda.{Agenda}
 use Rattle.ct_solo.specs.Agendas.{look, jobs_of, IsAgenda}
@@ -210,10 +211,6 @@ module _ (v : Edition) (a : Agenda) (o : IsOpen v a) where
         }
 
 -- ---- the level
-
-under_is_below : (w : Option ℕ) → level_under w ≡ level_below w
-under_is_below None = refl
-under_is_below (Some g) = refl
 
 -- the next grade of an agenda is the one that its version opens
 pub level_from_agenda : (v : Edition) (a : Agenda) → IsVersion v.instance v.number → HasAgenda v a → (w : Option ℕ) →

@@ -1,4 +1,3 @@
-pub mod LevelsSoFar
 pub mod AgendaFacts
 pub mod Looks
 pub mod Fillings

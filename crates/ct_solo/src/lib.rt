@@ -8,7 +8,6 @@
 
 mod agenda;
 mod filling;
-mod handing;
 mod reducing;
 mod solos;
 mod steps;

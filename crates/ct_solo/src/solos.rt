@@ -4,8 +4,8 @@ ghost use Rattle.ct_vectors.specs.declared.limits.TheConstants.{GRADE_LIMIT, MOV
 
 use crate::agenda::Agenda;
 use crate::filling::take_generators;
-use crate::handing::{helped, marked};
-use crate::steps::{following, moves_brought, shared};
+use crate::steps::{following, moves_brought};
+use ct_handing::{helped, marked, shared};
 use ct_instance::Instance;
 use ct_version::{Finished, FullMark, Helped, Stop, Version};
 use ct_walk::Moves;

@@ -1,5 +1,5 @@
 //! From one version to the next.
-ghost use Rattle.std.specs.Prelude.{◌≡◌, ◌+◌, ◌-◌, ◌≤◌, ◌<◌, ◌++◌, ℕ, None, Some, suc, length, All, IfOk, OnOk};
+ghost use Rattle.std.specs.Prelude.{◌≡◌, ◌+◌, ◌-◌, ◌≤◌, ◌<◌, ◌++◌, ℕ, Some, suc, length, All, IfOk, OnOk};
 ghost use Rattle.std.specs.Arc.{arc_value};
 ghost use Rattle.ct_vectors.specs.declared.limits.TheConstants.{GRADE_LIMIT, MOVE_LIMIT};
 ghost use Rattle.ct_instance.specs.Versions.{upto, level_of, version_list};
@@ -10,6 +10,7 @@ use crate::agenda::Agenda;
 use crate::filling::take_pairs;
 use crate::reducing::{lent, points_left};
 use ct_groups::new_moves;
+use ct_handing::shared;
 use ct_version::{Finished, Version};
 use ct_walk::Move;
 use std::alloc::{AllocError, Global};
@@ -68,15 +69,5 @@ fn opened_by(version: &Version) -> u64
     match version.finished() {
         Finished::All => unreachable!(),
         Finished::Upto(level) => level + 1,
-    }
-}
-
-// The version, shared.
-pub fn shared(alloc: Global, version: Version) -> Result<Arc<Version>, AllocError>
-    ensures { IfOk result (λ a. arc_value a ≡ version) }
-{
-    match Arc::new(alloc, version) {
-        Ok(made) => Ok(made),
-        Err(_) => Err(AllocError),
     }
 }

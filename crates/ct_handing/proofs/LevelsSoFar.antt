@@ -1,19 +1,24 @@
 -- The levels of the versions so far.
-use Rattle.std.proofs.Common.{◌≡◌, ℕ, ◌+◌, ◌-◌, ◌≤◌, ◌<◌, List, [], ◌∷◌, length, map, get_or, ⊎_elim, sym, ap, subst, ◌∙◌, refl, arith, zero, suc}
+use Rattle.std.proofs.Common.{◌≡◌, ℕ, ◌+◌, ◌-◌, ◌≤◌, ◌<◌, Option, None, Some, List, [], ◌∷◌, length, map, get_or, ⊎_elim, sym, ap, subst, ◌∙◌, refl, arith, zero, suc}
 use Rattle.std.proofs.lemmas.Bool.{cases_lt}
 use Rattle.std.proofs.lemmas.List.{length_push, length-map, get_or-map, get_or_append_left, get_or_push}
 use Rattle.ct_vectors.specs.Vectors.{up_to}
 use Rattle.ct_instance.specs.Instance.{Problem}
 use Rattle.ct_instance.specs.Versions.{Level, Covers, level_of}
 use Rattle.ct_instance.specs.Reach.{first_level_from}
+use Rattle.ct_instance.proofs.Above.{level_under}
 use Rattle.ct_levels.specs.Levels.{IsFirstVersion}
 use Rattle.ct_levels.proofs.Levels.{levels_rise}
 use Rattle.ct_levels.proofs.Covering.{first_version}
 use Rattle.ct_completion.specs.Kept.{AreLevels}
 use Rattle.ct_version.specs.declared.finished.Finished.{Finished}
 use Rattle.ct_version.specs.declared.finished.Finished.TheVariants.{All}
-use Rattle.ct_version.specs.Editions.{level_seen}
-use Rattle.ct_book.specs.Handing.{AreRising, IsFirstCovering}
+use Rattle.ct_version.specs.Editions.{level_seen, level_below}
+use Rattle.ct_handing.specs.Handing.{AreRising, IsFirstCovering}
+
+pub under_is_below : (o : Option ℕ) → level_under o ≡ level_below o
+under_is_below None = refl
+under_is_below (Some g) = refl
 
 length-up_to : (n : ℕ) → length (up_to n) ≡ n + 1
 length-up_to zero = refl

@@ -1,6 +1,6 @@
 use Rattle.std.proofs.Common.{ℕ, ◌-◌, ◌≤◌, ◌<◌, length}
-use Rattle.ct_book.specs.Handing.{CoversAt}
-use Rattle.ct_book.proofs.handing.first_covering.Given as goal
+use Rattle.ct_handing.specs.Handing.{CoversAt}
+use Rattle.ct_handing.proofs.handing.first_covering.Given as goal
 
 abbrev pub invariant-loop-low : goal.invariant-loop-low
 invariant-loop-low l = record {

@@ -1,4 +1,4 @@
-//! Handing on the version of a book: with the level that covers a grade, or with the mark.
+//! A version with the level that covers a grade, or with the mark.
 ghost use Rattle.std.specs.Prelude.{◌≡◌, ◌≤◌, ◌<◌, ℕ, Some, length, map, get_or, IfOk};
 ghost use Rattle.std.specs.Arc.{arc_value};
 ghost use Rattle.ct_vectors.specs.declared.limits.TheConstants.{JOB_GRADE_LIMIT};
@@ -6,13 +6,14 @@ ghost use Rattle.ct_instance.specs.Versions.{Covers, level_of};
 ghost use Rattle.ct_instance.specs.Reach.{opened_grade, first_level_from};
 ghost use Rattle.ct_completion.specs.Kept.{AreLevels};
 ghost use Rattle.ct_version.specs.Editions.{level_seen};
-ghost use Rattle.ct_book.specs.Handing.{AreRising, IsFirstCovering};
+ghost use Rattle.ct_handing.specs.Handing.{AreRising, IsFirstCovering};
 
 use ct_version::{Finished, FullMark, Helped, Version};
-use std::alloc::AllocError;
+use std::alloc::{AllocError, Global};
 use std::sync::Arc;
 
-// The version with the first level that covers the grade.
+/// The version with the first of the levels so far that covers the grade, found by halving. `levels` has the level of each
+/// version up to this one, from number 0 on.
 pub fn helped(version: &Arc<Version>, levels: &[Finished], g: u64) -> Result<Helped, AllocError>
     requires levels { AreLevels (arc_value version.now).instance (arc_value version.now).number (map level_seen levels.now) }
     requires covers { Covers (level_of (arc_value version.now).instance (arc_value version.now).number) g }
@@ -45,7 +46,7 @@ fn first_covering(levels: &[Finished], g: u64) -> usize
     low
 }
 
-// The version with the mark at the grade that it opens.
+/// The version with the mark at the grade that it opens: the one above the grade up to which it is finished.
 pub fn marked(version: &Arc<Version>) -> Result<FullMark, AllocError>
     requires { (d : ℕ) × (opened_grade (arc_value version.now).instance (arc_value version.now).number ≡ Some d) × (d ≤ JOB_GRADE_LIMIT) }
     ensures version { IfOk result (λ m. arc_value m.version ≡ arc_value version.now) }
@@ -57,4 +58,14 @@ pub fn marked(version: &Arc<Version>) -> Result<FullMark, AllocError>
     };
     let version = Arc::try_clone(version)?;
     Ok(FullMark { grade, version })
+}
+
+/// The version, shared.
+pub fn shared(alloc: Global, version: Version) -> Result<Arc<Version>, AllocError>
+    ensures { IfOk result (λ a. arc_value a ≡ version) }
+{
+    match Arc::new(alloc, version) {
+        Ok(made) => Ok(made),
+        Err(_) => Err(AllocError),
+    }
 }

@@ -1,7 +1,7 @@
 use Rattle.std.specs.Arc.{arc_value}
 use Rattle.ct_version.specs.declared.finished.Finished.TheVariants.{Upto}
-use Rattle.ct_book.proofs.LevelsSoFar.{rising, first_level}
-use Rattle.ct_book.proofs.handing.helped.Goals as goal
+use Rattle.ct_handing.proofs.LevelsSoFar.{rising, first_level}
+use Rattle.ct_handing.proofs.handing.helped.Goals as goal
 
 pub first_covering-first-requires : goal.first_covering-first-requires
 first_covering-first-requires c =

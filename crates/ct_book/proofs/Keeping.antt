@@ -20,6 +20,7 @@ use Rattle.ct_completion.specs.Journal.{IsReplay}
 use Rattle.ct_completion.specs.Laws.{IsReached}
 use Rattle.ct_completion.proofs.Replay.{journal_grows, replay_reached}
 use Rattle.ct_jobs.specs.declared.graded.GradedJob.{GradedJob}
+use Rattle.ct_handing.proofs.Short.{IsShortOf}
 use Rattle.ct_version.specs.declared.finished.Finished.{Finished}
 use Rattle.ct_version.specs.Editions.{Edition, level_seen}
 use Rattle.std.specs.Arc.{arc_value}
@@ -219,23 +220,6 @@ already_steps x r why = record { step = (why, refl); kept = ap (λ (es : List En
     with_journal es = record { instance = (x.version).instance; limit = x.limit; passes = (x.log).passes; state = state_in x; journal = es }
 
 -- ---- handing out
-
--- a version that doesn't cover g opens a grade that is at most g
-pub record IsShortOf (v : Edition) (g : ℕ) : Type 0 where
-  pub level : ℕ
-  pub same : level_of v.instance v.number ≡ upto level
-  pub below : level < g
-
-pub short_of : (v : Edition) (g : ℕ) → (Covers (level_of v.instance v.number) g → ⊥) → IsShortOf v g
-short_of v g beyond = go (level_of v.instance v.number) refl
-  where
-    go : (l : Level) → level_of v.instance v.number ≡ l → IsShortOf v g
-    go everything e = absurd (beyond (subst (λ (l : Level). Covers l g) (sym e) tt))
-    go (upto l) e = record {
-      level = l;
-      same = e;
-      below = ⊎_elim (λ below. below) (λ above. absurd (beyond (subst (λ (x : Level). Covers x g) (sym e) above))) (cases_lt l g);
-    }
 
 pub opens_at_most : (v : Edition) (g d : ℕ) → IsShortOf v g → opened_grade v.instance v.number ≡ Some d → d ≤ g
 opens_at_most v g d s e =

@@ -14,7 +14,8 @@ use Rattle.ct_version.specs.Desks.{IsOfPlace, IsFullMark}
 use Rattle.ct_book.specs.declared.outcomes.Published.TheVariants.{Full}
 use Rattle.ct_book.specs.Books.{BookSeen, edition_of, place_of, IsCovered, IsPublished, Steps, entry_by, CountsRise}
 use Rattle.ct_book.proofs.Logs.{entries_same, entries_other}
-use Rattle.ct_book.proofs.Keeping.{IsShortOf, short_of, opens_at_most}
+use Rattle.ct_handing.proofs.Short.{IsShortOf, short_of}
+use Rattle.ct_book.proofs.Keeping.{opens_at_most}
 
 pub published_mark : (b : BookSeen) → IsEdition (edition_of b) → IsOfPlace (place_of b) (edition_of b) → (by g : ℕ) → (IsCovered b g → ⊥) → (c : BookSeen) (m : FullMark) →
     IsPublished b by c (Full m) → IsFullMark (place_of b) g m

@@ -1,1 +1,3 @@
 pub mod LevelsSoFar
+pub mod Short
+pub mod Points

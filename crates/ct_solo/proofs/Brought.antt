@@ -34,6 +34,7 @@ use Rattle.ct_completion.specs.Remainders.{points_of, IsGroupMove}
 use Rattle.ct_completion.proofs.Remainders.{opened_is}
 use Rattle.ct_groups.specs.Groups.{IsSmallPoint}
 use Rattle.ct_handing.proofs.LevelsSoFar.{under_is_below}
+use Rattle.ct_handing.proofs.Points.{AreSmall, remainder_small, all_points}
 use Rattle.ct_version.specs.Editions.{Edition, level_below}
 use Rattle.ct_solo.specs.declared.agenda.Agenda.{Agenda}
 use Rattle.ct_solo.specs.Agendas.{look, jobs_of, IsAgenda}
@@ -41,34 +42,6 @@ use Rattle.ct_solo.specs.Leaving.{LeavesPoints, IsSmallJob}
 use Rattle.ct_solo.specs.Insides.{HasAgenda}
 use Rattle.ct_solo.proofs.AgendaFacts.{graded, same_agenda, longer_agenda}
 use Rattle.ct_solo.proofs.KeptJobs.{next_from_kept}
-
--- ---- the points of remainders
-
-abbrev pub AreSmall : Problem → Option (List ℕ × List ℕ) → Type 0
-AreSmall i None = Unit {0}
-AreSmall i (Some p) = IsSmallPoint i p.0 × IsSmallPoint i p.1
-
-walked_small : (i : Problem) → IsInstance i → (ms : List Binomial) → AreMoves i ms → (b p q : List ℕ) → total b ≤ GRADE_LIMIT → IsInFiber i b p → IsWalkEnd ms p q → IsSmallPoint i q
-walked_small i h ms a b p q most f w =
-    let d : StaysOrGoesDown i p q = leads_down i ms a p q f.point (walk_leads ms p q w.steps w.walk) in
-    record {
-      point = (d.member).point;
-      grade = subst (λ (c : List ℕ). total c ≤ GRADE_LIMIT) (sym ((d.member).degree ∙ f.degree)) most;
-    }
-
-remainder_small : (i : Problem) → IsInstance i → (ms : List Binomial) → AreMoves i ms → (j : Job) → IsSmallJob i ms j → (r : Option (List ℕ × List ℕ)) → IsRemainder i ms j r → AreSmall i r
-remainder_small i h ms a j s r (coprime c) = tt
-remainder_small i h ms a j s r (meet p n first second) = tt
-remainder_small i h ms a j s r (differ p q n first second apart) =
-    let ends = ends_in_fiber i h ms a j s.job in
-    (walked_small i h ms a (job_degree_of i ms j) (first_end_of i ms j) p s.grade ends.0 first, walked_small i h ms a (job_degree_of i ms j) (second_end_of i ms j) q s.grade ends.1 second)
-
-all_points : (i : Problem) (rs : List (Option (List ℕ × List ℕ))) → All (AreSmall i) rs → All (IsSmallPoint i) (points_of rs)
-all_points i [] all = λ k d l. absurd (let m : k < 0 = l in omega arith)
-all_points i (None ∷ rs) all = all_points i rs (λ k d l. all (suc k) d (omega arith))
-all_points i (Some p ∷ rs) all =
-    let here : IsSmallPoint i p.0 × IsSmallPoint i p.1 = all 0 None (omega arith) in
-    All-cons (IsSmallPoint i) p.0 (p.1 ∷ points_of rs) here.0 (All-cons (IsSmallPoint i) p.1 (points_of rs) here.1 (all_points i rs (λ k d l. all (suc k) d (omega arith))))
 
 -- ---- a version whose agenda is kept
 
@@ -119,7 +92,7 @@ module _ (v : Edition) (a : Agenda) (o : IsOpen v a) where
       (all_points v.instance h.remainders (λ k x l.
       let m : k < length (jobs_of a d) = omega (arith, l, (h.are).count) in
       subst (AreSmall v.instance) (get_or_default h.remainders k None x l)
-      (remainder_small v.instance o.instance ms are_moves (get_or (jobs_of a d) k (Generator 0)) (small_jobs d is k (Generator 0) m) (get_or h.remainders k None) ((h.are).each k (Generator 0) m))))
+      (remainder_small v.instance o.instance ms are_moves (get_or (jobs_of a d) k (Generator 0)) (small_jobs d is k (Generator 0) m).job (small_jobs d is k (Generator 0) m).grade (get_or h.remainders k None) ((h.are).each k (Generator 0) m))))
 
   -- each job of the opened grade is kept, or a coprime pair
   kept_or_coprime : (d : ℕ) → d ≡ o.level + 1 → (j : Job) → IsJob v.instance ms j → job_grade_of v.instance ms j ≡ d → IsCoprime ms j ⊎ Contains (jobs_of a d) j

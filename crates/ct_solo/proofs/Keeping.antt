@@ -13,6 +13,7 @@ use Rattle.ct_instance.specs.Reach.{grade_after, opened_grade, first_level_from}
 use Rattle.ct_levels.proofs.Levels.{list_zero, list_next}
 use Rattle.ct_levels.proofs.Full.{opened_is_full, full_some, no_full_within}
 use Rattle.ct_completion.specs.Kept.{AreLevels}
+use Rattle.ct_handing.proofs.Short.{IsShortOf}
 use Rattle.ct_version.specs.declared.finished.Finished.{Finished}
 use Rattle.ct_version.specs.declared.pins.Helped.{Helped}
 use Rattle.ct_version.specs.declared.pins.FullMark.{FullMark}
@@ -42,23 +43,6 @@ zero_solo i v same edition limit most a top levels l only level has =
     }
 
 -- ---- what is handed on
-
--- the version opens a grade that is at most g
-pub record IsShortOf (v : Edition) (g : ℕ) : Type 0 where
-  pub level : ℕ
-  pub same : level_of v.instance v.number ≡ upto level
-  pub below : level < g
-
-pub short_of : (v : Edition) (g : ℕ) → (Covers (level_of v.instance v.number) g → ⊥) → IsShortOf v g
-short_of v g beyond = go (level_of v.instance v.number) refl
-  where
-    go : (l : Level) → level_of v.instance v.number ≡ l → IsShortOf v g
-    go everything e = absurd (beyond (subst (λ (l : Level). Covers l g) (sym e) tt))
-    go (upto l) e = record {
-      level = l;
-      same = e;
-      below = ⊎_elim (λ below. below) (λ above. absurd (beyond (subst (λ (x : Level). Covers x g) (sym e) above))) (cases_lt l g);
-    }
 
 module _ (x : Insides) (h : IsSolo x) where
   pub of_place : IsOfPlace (place_of (solo_in x)) x.version

@@ -5,7 +5,8 @@ use Rattle.ct_book.specs.Queues.{QueueSeen}
 use Rattle.ct_book.specs.Tasks.{IsTask}
 use Rattle.ct_book.specs.Books.{BookSeen, IsCovered, Steps, edition_of}
 use Rattle.ct_book.specs.Insides.{Insides, book_in, IsBook}
-use Rattle.ct_book.proofs.Keeping.{inside_of, short_of, is_task, handed_kept}
+use Rattle.ct_handing.proofs.Short.{short_of}
+use Rattle.ct_book.proofs.Keeping.{inside_of, is_task, handed_kept}
 use Rattle.ct_book.proofs.books.Book.hand_out.Goals as goal
 
 pub invariant_of-self : goal.invariant_of-self

@@ -6,7 +6,8 @@ use Rattle.ct_version.specs.Desks.{IsHelp, IsFullMark}
 use Rattle.ct_version.specs.Editions.{Edition, level_seen}
 use Rattle.ct_book.specs.Books.{BookSeen, IsCovered, IsReadyBook, edition_of, place_of}
 use Rattle.ct_book.specs.Insides.{Insides, book_in}
-use Rattle.ct_book.proofs.Keeping.{inside_of, IsShortOf, short_of, ready_iff, reached_help, marked_mark}
+use Rattle.ct_handing.proofs.Short.{IsShortOf, short_of}
+use Rattle.ct_book.proofs.Keeping.{inside_of, ready_iff, reached_help, marked_mark}
 use Rattle.ct_book.proofs.books.Book.next.Goals as goal
 
 pub marked-requires : goal.marked-requires

@@ -5,7 +5,8 @@ use Rattle.ct_instance.specs.Reach.{opened_grade}
 use Rattle.ct_version.specs.Desks.{IsFullMark}
 use Rattle.ct_solo.specs.Seen.{SoloSeen, place_of, edition_of, IsCovered}
 use Rattle.ct_solo.specs.Insides.{Insides}
-use Rattle.ct_solo.proofs.Keeping.{insides, short_of, full_mark}
+use Rattle.ct_handing.proofs.Short.{short_of}
+use Rattle.ct_solo.proofs.Keeping.{insides, full_mark}
 use Rattle.ct_solo.proofs.solos.Solo.stop.Goals as goal
 
 pub returns-in-Ok : goal.returns-in-Ok

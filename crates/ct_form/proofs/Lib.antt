@@ -10,4 +10,5 @@ pub mod Made
 pub mod PaddedCosts
 pub mod EqualMade
 pub mod FormMade
+pub mod PlainKept
 mod Worked

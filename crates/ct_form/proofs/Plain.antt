@@ -28,7 +28,7 @@ unpadded : (rows : List (List ℤ)) → map (λ row. row ++ []) rows ≡ rows
 unpadded [] = refl
 unpadded (row ∷ rows) = ap₂ ◌∷◌ (append-nil row) (unpadded rows)
 
-plain_equal : (i : Problem) → equal_of (plain_form i) ≡ i
+pub plain_equal : (i : Problem) → equal_of (plain_form i) ≡ i
 plain_equal i = λ t. record { rows = rows t; columns = columns t; cost_rows = cost_rows t }
   where
     none : length (given_in (replicate (length i.columns) None)) ≡ 0
@@ -50,7 +50,7 @@ plain_equal i = λ t. record { rows = rows t; columns = columns t; cost_rows = c
     cost_rows : map (λ row. row ++ replicate (slack_count (plain_form i)) (pos 0)) i.cost_rows ≡ i.cost_rows
     cost_rows = ap (λ k. map (λ row. row ++ replicate k (pos 0)) i.cost_rows) count ∙ unpadded i.cost_rows
 
-plain_is_form : (i : Problem) → IsInstance i → IsForm (plain_form i)
+pub plain_is_form : (i : Problem) → IsInstance i → IsForm (plain_form i)
 plain_is_form i h = record {
   some_row = h.some_row;
   some_column = h.some_column;

@@ -15,6 +15,10 @@ abbrev pub form_of : ℕ → ℕ → List ℕ → Limits → List ℤ → Form
 form_of m n entries held costs =
     record { rows = m; columns = columns_of m n entries; cost_rows = rows_of (length costs / n) n costs; relations = held.relations; bounds = held.bounds }
 
+-- each row is equal to its right-hand side, and no variable has a bound
+abbrev pub plain_limits : ℕ → ℕ → Limits
+plain_limits m n = record { relations = replicate m Eq; bounds = replicate n None }
+
 -- how many rows and columns a bound adds
 abbrev pub given_of : Option ℕ → ℕ
 given_of None = 0

@@ -3,7 +3,7 @@
 ghost use Rattle.std.specs.Prelude.{◌≡◌, length, None, IfOk, OnOk, IfErr};
 ghost use Rattle.ct_instance.specs.Made.{columns_of, NamesZeroColumn};
 ghost use Rattle.ct_form.specs.Forms.{given_in};
-ghost use Rattle.ct_form.specs.EqualityForms.{equal_of, IsForm};
+ghost use Rattle.ct_form.specs.EqualityForms.{equal_of, plain_form, IsForm};
 ghost use Rattle.ct_form.specs.Kept.{free_zero_of};
 ghost use Rattle.ct_form.specs.Made.{form_of, HasNumbers};
 
@@ -70,6 +70,23 @@ impl Form {
             limits,
             given,
             equal,
+        })
+    }
+
+    /// The form of an instance: each row is equal to its right-hand side, and no variable has a bound. Its equality form is
+    /// the instance, which it shares.
+    pub fn of(alloc: Global, instance: Arc<Instance>) -> Result<Form, AllocError>
+        ensures { IfOk result (λ f. f ≡ plain_form (arc_value instance)) }
+    {
+        let rows = instance.rows();
+        let columns = instance.columns();
+        let limits = Limits::plain(alloc, rows, columns)?;
+        Ok(Form {
+            rows,
+            columns,
+            limits,
+            given: Vec::new(alloc),
+            equal: instance,
         })
     }
 

@@ -1,6 +1,5 @@
 -- The check of the entries of a ledger, one by one.
-use Rattle.std.proofs.Common.{ℕ, All, Contains, ◌+◌, ◌≤◌, ◌<◌, ◌≡◌, true, false, not, cond, Option, Some, None, List, [], ◌∷◌, map, length, drop, get_or, refl, sym, subst, ap, ap₂, ◌∙◌, arith, zero, suc}
-use Rattle.std.specs.Option.{option_or, option_map}
+use Rattle.std.proofs.Common.{ℕ, All, Contains, ◌≤◌, ◌<◌, ◌≡◌, true, false, not, cond, Option, Some, List, [], ◌∷◌, map, length, drop, get_or, refl, sym, subst, ap, ap₂, ◌∙◌, arith, zero, suc}
 use Rattle.std.proofs.lemmas.Bool.{cond-true, not-false}
 use Rattle.std.proofs.lemmas.List.{drop_more}
 use Rattle.std.proofs.lemmas.List.Elements.{Contains-get_or}

@@ -1,21 +1,13 @@
 -- The check of the moves of a ledger, one by one.
-use Rattle.std.proofs.Common.{ℕ, ◌+◌, ◌≤◌, ◌<◌, ◌≡◌, Bool, not, nat_lt, cond, Option, Some, None, List, map, length, drop, get_or, ap, ◌∙◌}
+use Rattle.std.proofs.Common.{ℕ, ◌+◌, ◌<◌, ◌≡◌, Option, List, map, length, drop, get_or, ap, ◌∙◌}
 use Rattle.std.specs.Option.{option_or, option_map}
-use Rattle.std.proofs.lemmas.Bool.{cond-true, cond-false, lt-ltb, le-ltb, false_from_ne_true}
 use Rattle.std.proofs.lemmas.List.{drop_more}
-use Rattle.ct_order.specs.Order.{refined_order}
-use Rattle.ct_order.proofs.Order.{Less-from_test}
-use Rattle.ct_instance.specs.Instance.{Problem, column_count, degree_of, grade_of}
-use Rattle.ct_instance.specs.Fiber.{is_lower}
-use Rattle.ct_walk.specs.declared.faults.MoveFault.{MoveFault}
-use Rattle.ct_walk.specs.declared.faults.MoveFault.TheVariants as fault
-use Rattle.ct_walk.specs.Moves.{IsFault}
+use Rattle.ct_instance.specs.Instance.{Problem}
 use Rattle.ct_checker.specs.declared.verdicts.Reason.{Reason}
-use Rattle.ct_checker.specs.declared.verdicts.Reason.TheVariants.{Grade, Degree, Order}
-use Rattle.ct_checker.specs.Refusals.{same_numbers, move_reason, refused_move}
+use Rattle.ct_checker.specs.Refusals.{move_reason, refused_move}
 use Rattle.ct_checker.specs.declared.stops.CheckStop.{CheckStop}
 use Rattle.ct_checker.specs.declared.stops.CheckStop.TheVariants as stop
-use Rattle.ct_checker.specs.Checking.{as_move, reason_for, IsRefusedBy}
+use Rattle.ct_checker.specs.Checking.{as_move, IsRefusedBy}
 
 -- what is refused first of the moves from the k-th on
 pub move_left : (i : Problem) (g : ℕ) (pairs : List (List ℕ × List ℕ)) (k : ℕ) (d : List ℕ × List ℕ) → k < length pairs →

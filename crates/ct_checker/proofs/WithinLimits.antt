@@ -6,12 +6,10 @@ use Rattle.std.proofs.lemmas.List.Elements.{All-nil, All-cons}
 use Rattle.ct_vectors.specs.Vectors.{total}
 use Rattle.ct_vectors.specs.declared.limits.TheConstants.{GRADE_LIMIT, MOVE_LIMIT}
 use Rattle.ct_vectors.proofs.Divisors.{times-le-total}
-use Rattle.ct_instance.specs.declared.jobs.Job.{Job}
-use Rattle.ct_instance.specs.declared.jobs.Job.TheVariants.{Generator, Pair}
 use Rattle.ct_instance.specs.Instance.{Problem, IsInstance, IsPoint, column_count, grade_of}
 use Rattle.ct_instance.specs.TestSet.{Binomial}
 use Rattle.ct_instance.specs.Walk.{IsMove, AreMoves, IsWalk, moved}
-use Rattle.ct_instance.specs.Jobs.{IsJob, the_move}
+use Rattle.ct_instance.specs.Jobs.{the_move}
 use Rattle.ct_instance.proofs.Degree.{columns, total-le-grade, coordinate-le-grade}
 use Rattle.ct_walk.specs.Moves.{MoveList, IsMoveList, IsSmallMove, CanApply, Follows}
 use Rattle.ct_walk.proofs.Steps.{head_positive, move_is, moved_is_point}
@@ -20,7 +18,7 @@ use Rattle.ct_walk.proofs.Followed.{walk_follows}
 use Rattle.ct_walk.proofs.Ends.{the_move_at}
 use Rattle.ct_checker.specs.Certified.{pair_of}
 use Rattle.ct_checker.specs.Checking.{as_move}
-use Rattle.ct_ledger.specs.Parts.{IsLedgerPoint, AreSteps, IsNumber, HasNumbers}
+use Rattle.ct_ledger.specs.Parts.{IsLedgerPoint, AreSteps, IsNumber}
 
 -- a point of at most the greatest grade has coordinates within the limit
 pub small_point : (i : Problem) → IsInstance i → (p : List ℕ) → IsPoint i p → grade_of i.columns p ≤ GRADE_LIMIT → IsLedgerPoint (column_count i) i.rows p

@@ -1,8 +1,8 @@
 //! The check of a ledger.
-ghost use Rattle.std.specs.Prelude.{◌≡◌, ◌≤◌, ◌↔◌, ◌&&◌, nat_eq, ℕ, List, length, None, OnOk, IfOk, IfErr};
+ghost use Rattle.std.specs.Prelude.{◌≡◌, ◌≤◌, ◌↔◌, ℕ, List, length, None, OnOk, IfOk, IfErr};
 ghost use Rattle.std.specs.Arc.{arc_value};
 ghost use Rattle.ct_vectors.specs.Vectors.{total};
-ghost use Rattle.ct_instance.specs.Instance.{IsRight, column_count};
+ghost use Rattle.ct_instance.specs.Instance.{IsRight};
 ghost use Rattle.ct_walk.specs.Laws.{HasOneNormalPoint};
 ghost use Rattle.ct_ledger.specs.Parts.{IsLedger};
 ghost use Rattle.ct_checker.specs.declared.verdicts.Verdict.TheVariants.{Accepted};
@@ -10,13 +10,13 @@ ghost use Rattle.ct_checker.specs.Accepted.{moves_of, IsAccepted};
 ghost use Rattle.ct_checker.specs.Refusals.{first_refusal_of};
 ghost use Rattle.ct_checker.specs.Checking.{verdict_of, IsAcceptance, IsRefusedBy};
 
-use crate::job_list::list_jobs;
+use crate::docket::docket_of;
 use crate::ledger_entries::check_entries;
-use crate::ledger_moves::take_moves;
 use crate::stops::CheckStop;
 use crate::verdicts::{Reason, Verdict};
 use ct_instance::Instance;
 use ct_ledger::Ledger;
+use ct_walk::Moves;
 use std::alloc::{AllocError, Global};
 use std::sync::Arc;
 
@@ -34,8 +34,8 @@ pub fn check(alloc: Global, inst: &Arc<Instance>, ledger: &Ledger) -> Result<Ver
 {
     // For its facts alone: the instance is within the limits.
     let _rows = inst.rows();
-    match check_lines(alloc, inst, ledger) {
-        Ok(()) => Ok(accepted(ledger)),
+    match checked(alloc, inst, ledger) {
+        Ok(_moves) => Ok(accepted(ledger)),
         Err(CheckStop::Refused(line, reason)) => Ok(Verdict::Refused { line, reason }),
         Err(CheckStop::Memory) => Err(AllocError),
     }
@@ -52,23 +52,15 @@ fn accepted(ledger: &Ledger) -> Verdict
     }
 }
 
-// The first line that is refused, if one is.
-fn check_lines(alloc: Global, inst: &Arc<Instance>, ledger: &Ledger) -> Result<(), CheckStop>
+/// The moves of a ledger that `check` accepts, or its first refused line.
+///
+/// It takes the time and the memory of `check`.
+pub fn checked(alloc: Global, inst: &Arc<Instance>, ledger: &Ledger) -> Result<Moves, CheckStop>
+    ensures moves { IfOk result (λ ms. ms ≡ record { instance = arc_value inst.now; moves = moves_of ledger.now }) }
     ensures none { OnOk result (first_refusal_of (arc_value inst.now) ledger.now ≡ None) }
     ensures refused { IfErr result (IsRefusedBy (first_refusal_of (arc_value inst.now) ledger.now)) }
 {
-    if !is_of_size(inst, ledger) {
-        return Err(CheckStop::Refused(2, Reason::Size));
-    }
-    let moves = take_moves(alloc, inst, ledger.grade(), ledger.moves())?;
-    let jobs = list_jobs(alloc, inst, &moves, ledger.grade())?;
-    check_entries(alloc, inst, &moves, jobs.as_slice(), ledger.entries())
-}
-
-// Whether the size is the instance's.
-fn is_of_size(inst: &Instance, ledger: &Ledger) -> bool
-    ensures { result ≡ (nat_eq ledger.now.rows inst.now.rows && nat_eq ledger.now.columns (column_count inst.now)) }
-{
-    let (rows, columns) = ledger.size();
-    rows as usize == inst.rows() && columns as usize == inst.columns()
+    let docket = docket_of(alloc, inst, ledger)?;
+    check_entries(alloc, inst, docket.moves(), docket.jobs(), ledger.entries())?;
+    Ok(docket.into_moves())
 }

@@ -52,7 +52,7 @@ pub fn check_entries(
 }
 
 // What is wrong with the entry where this job is next, if anything is. The two points are overwritten.
-fn wrong_with(
+pub fn wrong_with(
     inst: &Instance,
     moves: &Moves,
     job: Job,

@@ -7,6 +7,7 @@
 
 mod certifying;
 mod checking;
+mod docket;
 mod job_list;
 pub mod laws;
 mod ledger_entries;
@@ -15,5 +16,7 @@ mod stops;
 mod verdicts;
 
 pub use certifying::certify;
-pub use checking::check;
+pub use checking::{check, checked};
+pub use docket::{Docket, docket_of};
+pub use stops::CheckStop;
 pub use verdicts::{Reason, Verdict};

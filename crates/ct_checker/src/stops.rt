@@ -3,10 +3,12 @@
 use crate::verdicts::Reason;
 use std::alloc::{AllocError, AllocFailed};
 
-// A line is refused, or there is no memory.
+/// Why there are no checked moves.
 #[derive(Debug, Drop)]
 pub enum CheckStop {
+    /// The first line that is refused, from 1, and why.
     Refused(u64, Reason),
+    /// Memory was refused.
     Memory,
 }
 

@@ -1,15 +1,15 @@
 -- How far the moves of a completion from its beginning come, and the greatest grade of phases.
-use Rattle.std.proofs.Common.{◌≡◌, ℕ, ◌+◌, ◌-◌, ◌<◌, max, List, length, get_or, take, map, sym, ap, ◌∙◌}
+use Rattle.std.proofs.Common.{◌≡◌, ℕ, ◌+◌, ◌<◌, max, Some, List, length, get_or, take, map, sym, ap, ◌∙◌}
 use Rattle.std.specs.Arc.{arc_value}
 use Rattle.std.proofs.lemmas.List.{map_push}
 use Rattle.ct_instance.specs.Instance.{Problem}
 use Rattle.ct_instance.specs.TestSet.{Binomial}
 use Rattle.ct_instance.specs.Versions.{level_of, version_list}
 use Rattle.ct_levels.proofs.Covering.{first_version}
-use Rattle.ct_version.specs.declared.finished.Finished.TheVariants.{Upto}
+use Rattle.ct_version.specs.declared.finished.Finished.{Finished}
 use Rattle.ct_version.specs.declared.pins.Helped.{Helped}
 use Rattle.ct_version.specs.declared.pins.FullMark.{FullMark}
-use Rattle.ct_version.specs.Editions.{Edition}
+use Rattle.ct_version.specs.Editions.{Edition, level_seen, level_below}
 use Rattle.ct_version.specs.Desks.{Place, IsFullMark}
 use Rattle.ct_solo.specs.Seen.{SoloSeen, IsCompleted}
 use Rattle.ct_input.specs.declared.script.Phase.{Phase}
@@ -38,13 +38,13 @@ extent_helped i limit top g c h moves done count =
       moves = count ∙ ap (λ p. length (version_list p (arc_value h.version).number)) done.help.version.instance;
     }
 
-pub extent_marked : (i : Problem) (limit g : ℕ) (m : FullMark) (moves : ℕ) → IsFullMark (record { instance = i; limit = limit }) g m →
-    moves ≡ length (list_of (arc_value m.version)) → IsExtent i limit g (record { moves = moves; level = Upto (m.grade - 1) })
-extent_marked i limit g m moves mark count = record {
-  level = reach_marked (record { instance = i; limit = limit }) g m mark;
+pub extent_marked : (i : Problem) (limit g : ℕ) (m : FullMark) (moves : ℕ) (level : Finished) → IsFullMark (record { instance = i; limit = limit }) g m →
+    moves ≡ length (list_of (arc_value m.version)) → level_seen level ≡ level_below (Some m.grade) → IsExtent i limit g (record { moves = moves; level = level })
+extent_marked i limit g m moves level mark count is = record {
+  level = is ∙ reach_marked (record { instance = i; limit = limit }) g m mark;
   number = (arc_value m.version).number;
   version = mark.version.version;
-  same = mark.finished;
+  same = mark.finished ∙ sym is;
   moves = count ∙ ap (λ p. length (version_list p (arc_value m.version).number)) mark.version.instance;
 }
 

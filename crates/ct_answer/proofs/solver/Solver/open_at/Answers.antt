@@ -1,10 +1,8 @@
-use Rattle.std.proofs.Common.{ℕ, length, ap, sym, subst, ◌∙◌}
+use Rattle.std.proofs.Common.{length, ap, subst, ◌∙◌}
 use Rattle.std.specs.Arc.{arc_value}
 use Rattle.ct_version.specs.declared.pins.Stop.{Stop}
 use Rattle.ct_version.specs.Editions.{Edition}
 use Rattle.ct_solo.specs.Seen.{SoloSeen, IsCompleted, IsEnded}
-use Rattle.ct_version.specs.declared.finished.Finished.TheVariants.{Upto}
-use Rattle.ct_answer.specs.Extents.{IsExtent}
 use Rattle.ct_answer.proofs.Completed.{opened}
 use Rattle.ct_answer.proofs.Extents.{list_of, extent_helped, extent_marked}
 use Rattle.ct_answer.proofs.solver.Solver.open_at.Goals as goal
@@ -25,6 +23,6 @@ returns-in-Err-Full-clause-extent c =
     let ended : IsEnded (opened i c.args.limit c.args.grade) c.args.grade c.complete.new.self c.in-Err-Full.field-0 =
     subst (λ (s : SoloSeen). IsEnded s c.args.grade c.complete.new.self c.in-Err-Full.field-0) c.in_ok-solo.ensures c.in-Err-Full.ensures.answer in
     let done = subst (λ (s : Stop). IsEnded (opened i c.args.limit c.args.grade) c.args.grade c.complete.new.self s) c.in-Err-Full.field-0-is ended in
-    subst (λ (l : ℕ). IsExtent i c.args.limit c.args.grade (record { moves = c.len-moves-in-Err-Full.result; level = Upto l })) (sym c.saturating_sub.ensures)
-    (extent_marked i c.args.limit c.args.grade mark c.len-moves-in-Err-Full.result done.0
-    (c.len-moves-in-Err-Full.ensures.count ∙ ap length c.moves-in-Err-Full.ensures.list ∙ ap (λ (v : Edition). length (list_of v)) c.deref-in-Err-Full.ensures))
+    extent_marked i c.args.limit c.args.grade mark c.len-moves-in-Err-Full.result c.below-level.result done.0
+    (c.len-moves-in-Err-Full.ensures.count ∙ ap length c.moves-in-Err-Full.ensures.list ∙ ap (λ (v : Edition). length (list_of v)) c.deref-in-Err-Full.ensures)
+    c.below-level.ensures

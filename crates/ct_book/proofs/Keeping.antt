@@ -1,7 +1,7 @@
 -- What a book keeps, over each step.
 use Rattle.std.proofs.Common.{◌≡◌, ℕ, ◌+◌, ◌-◌, ◌≤◌, ◌<◌, Bool, true, false, true≢false, Option, Some, None, List, [], ◌∷◌, ◌++◌, length, map, get_or, set, Contains, ◌↔◌, ◌⊎◌, append-nil, ⊎_elim, sym, ap, ap₂, subst, subst₂, ◌∙◌, refl, arith, zero, suc}
 use Rattle.std.specs.Prelude.{slice_get}
-use Rattle.std.proofs.lemmas.Bool.{cases_eq, cases_lt}
+use Rattle.std.proofs.lemmas.Bool.{cases_eq}
 use Rattle.std.proofs.lemmas.Grind.{get_or-set_at}
 use Rattle.std.proofs.lemmas.List.{get_or_default, length_push, length-map, get_or-set_other, map-append}
 use Rattle.std.proofs.lemmas.Option.{get_or_from_slice_get, same_Some}
@@ -11,7 +11,7 @@ use Rattle.ct_instance.specs.declared.jobs.Job.{Job}
 use Rattle.ct_instance.specs.declared.jobs.Job.TheVariants.{Generator}
 use Rattle.ct_instance.specs.Instance.{Problem}
 use Rattle.ct_instance.specs.Jobs.{job_grade_of}
-use Rattle.ct_instance.specs.Versions.{Level, upto, everything, level_of, version_list, IsRemainder, Covers, IsFullGrade}
+use Rattle.ct_instance.specs.Versions.{upto, level_of, version_list, IsRemainder, Covers, IsFullGrade}
 use Rattle.ct_instance.specs.Reach.{grade_after, opened_grade, first_level_from}
 use Rattle.ct_completion.specs.declared.journals.Act.TheVariants.{Stored as ActStored}
 use Rattle.ct_completion.specs.declared.journals.Entry.{Entry}

@@ -4,7 +4,7 @@ use Rattle.std.proofs.lemmas.Bool.{cases_order}
 use Rattle.ct_instance.specs.declared.jobs.Job.{Job}
 use Rattle.ct_instance.specs.declared.jobs.Job.TheVariants.{Generator, Pair}
 use Rattle.ct_instance.specs.Instance.{Problem}
-use Rattle.ct_instance.specs.Jobs.{IsJob, JobComesBefore, job_grade_of, jobs_at}
+use Rattle.ct_instance.specs.Jobs.{IsJob, JobComesBefore, job_grade_of}
 use Rattle.ct_instance.specs.Versions.{version_list}
 use Rattle.ct_instance.specs.Reach.{opened_grade}
 use Rattle.ct_instance.proofs.JobsList.{jobs_of_grade_listed}

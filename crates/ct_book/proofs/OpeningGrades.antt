@@ -1,5 +1,5 @@
 -- The grade that a version opens, found among the jobs of its list.
-use Rattle.std.proofs.Common.{◌≡◌, ℕ, ◌+◌, ◌≤◌, false, Option, Some, None, List, [], ◌∷◌, ◌++◌, length, map, sym, ap, subst, ◌∙◌, refl, arith, append-nil}
+use Rattle.std.proofs.Common.{◌≡◌, ℕ, ◌+◌, ◌≤◌, false, List, [], ◌∷◌, ◌++◌, length, map, sym, ap, subst, ◌∙◌, refl, arith, append-nil}
 use Rattle.ct_vectors.specs.declared.limits.TheConstants.{MOVE_LIMIT}
 use Rattle.ct_instance.specs.Instance.{Problem}
 use Rattle.ct_instance.specs.TestSet.{Binomial}

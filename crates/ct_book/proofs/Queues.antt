@@ -1,8 +1,8 @@
 -- Handing out and storing, on the slots of the jobs and the places of those that wait.
 use Rattle.std.proofs.Common.{◌≡◌, ℕ, ◌+◌, ◌-◌, ◌≤◌, ◌<◌, Bool, true, false, not, ◌&&◌, nat_eq, cond, true≢false, Option, Some, None, List, [], ◌∷◌, ◌++◌, length, filter, get_or, set, replicate, All, AllPairs, Contains, sym, ap, ap₂, subst, ◌∙◌, refl, arith, eq-eqb, ⊎_elim, zero, suc, length-set, get_or-set_other}
-use Rattle.std.proofs.lemmas.Bool.{ne_eqb, cases_eq, cases_lt, and_parts}
+use Rattle.std.proofs.lemmas.Bool.{ne_eqb, cases_eq, and_parts}
 use Rattle.std.proofs.lemmas.Grind.{get_or-set_at}
-use Rattle.std.proofs.lemmas.List.{get_or-replicate, length-replicate, length_push, get_or_append_left, get_or_push}
+use Rattle.std.proofs.lemmas.List.{get_or-replicate, length-replicate, length_push}
 use Rattle.std.proofs.lemmas.List.Elements.{filter_agree, filter-append}
 use Rattle.std.proofs.lemmas.List.Elements.{Contains-push, Contains-append_left}
 use Rattle.std.proofs.lemmas.List.Quantifiers.{all_pairs_push}

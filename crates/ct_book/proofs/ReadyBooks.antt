@@ -2,24 +2,19 @@
 use Rattle.std.proofs.Common.{◌≡◌, ℕ, ◌+◌, ◌≤◌, ◌<◌, Bool, true, true≢false, Option, Some, None, List, [], ◌∷◌, ◌++◌, length, map, get_or, All, AllPairs, Contains, ◌↔◌, IsPermutation, sym, ap, ap₂, subst, ◌∙◌, refl, arith, suc}
 use Rattle.std.specs.Option.{unwrap_or}
 use Rattle.std.proofs.lemmas.List.{get_or_default, length-map, length_push, length-append, map-append, get_or-map}
-use Rattle.std.proofs.lemmas.List.Elements.{All-cons}
 use Rattle.std.proofs.lemmas.List.Sorted.{IsPermutation-trans, IsPermutation-refl, IsPermutation-append}
 use Rattle.std.proofs.lemmas.Option.{slice_get-get_or, same_Some}
 use Rattle.ct_vectors.specs.declared.limits.TheConstants.{GRADE_LIMIT}
-use Rattle.ct_vectors.specs.Vectors.{total, up_to}
+use Rattle.ct_vectors.specs.Vectors.{up_to}
 use Rattle.ct_instance.specs.declared.jobs.Job.{Job}
 use Rattle.ct_instance.specs.declared.jobs.Job.TheVariants.{Generator}
-use Rattle.ct_instance.specs.Instance.{Problem, IsInstance}
-use Rattle.ct_instance.specs.Fiber.{IsInFiber}
+use Rattle.ct_instance.specs.Instance.{Problem}
 use Rattle.ct_instance.specs.TestSet.{Binomial, test_list, ComesBefore}
-use Rattle.ct_instance.specs.Walk.{AreMoves, IsWalkEnd}
-use Rattle.ct_instance.specs.Jobs.{IsJob, job_degree_of, job_grade_of, first_end_of, second_end_of}
-use Rattle.ct_instance.specs.Versions.{Level, upto, level_of, version_list, IsVersion, IsRemainder, coprime, meet, differ}
+use Rattle.ct_instance.specs.Walk.{AreMoves}
+use Rattle.ct_instance.specs.Jobs.{job_grade_of}
+use Rattle.ct_instance.specs.Versions.{Level, upto, level_of, version_list, IsVersion, IsRemainder}
 use Rattle.ct_instance.specs.Reach.{last_opened}
-use Rattle.ct_walk.specs.Laws.{StaysOrGoesDown}
-use Rattle.ct_walk.proofs.Ends.{ends_in_fiber}
-use Rattle.ct_walk.proofs.Steps.{leads_down}
-use Rattle.ct_walk.proofs.WalkFacts.{walk_leads, test_list_moves}
+use Rattle.ct_walk.proofs.WalkFacts.{test_list_moves}
 use Rattle.ct_levels.proofs.Levels.{list_next, last_opened_next}
 use Rattle.ct_levels.proofs.Lists.{is_list_of, opened_has_job}
 use Rattle.ct_levels.proofs.Levels.{covers_opened}

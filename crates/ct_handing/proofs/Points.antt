@@ -1,5 +1,5 @@
 -- The points of what the jobs of a grade leave.
-use Rattle.std.proofs.Common.{◌≡◌, ℕ, ◌≤◌, ◌<◌, Option, None, Some, List, [], ◌∷◌, All, sym, subst, ◌∙◌, arith, suc}
+use Rattle.std.proofs.Common.{ℕ, ◌≤◌, ◌<◌, Option, None, Some, List, [], ◌∷◌, All, sym, subst, ◌∙◌, arith, suc}
 use Rattle.std.proofs.lemmas.List.Elements.{All-cons}
 use Rattle.ct_vectors.specs.declared.limits.TheConstants.{GRADE_LIMIT}
 use Rattle.ct_vectors.specs.Vectors.{total}

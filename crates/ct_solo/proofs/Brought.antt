@@ -1,28 +1,25 @@
 -- The moves that the jobs of a grade bring, and the version that they make.
-use Rattle.std.proofs.Common.{◌≡◌, ◌⊎◌, ◌↔◌, inl, inr, ⊎_elim, ℕ, ◌+◌, ◌-◌, ◌≤◌, ◌<◌, Option, Some, None, Result, Ok, Err, IfOk, List, [], ◌∷◌, ◌++◌, length, get_or, All, AllPairs, Contains, sym, ap, ap₂, subst, subst₂, ◌∙◌, refl, arith, suc}
+use Rattle.std.proofs.Common.{◌≡◌, ◌⊎◌, ◌↔◌, inl, inr, ⊎_elim, ℕ, ◌+◌, ◌-◌, ◌≤◌, ◌<◌, Option, Some, None, Result, Ok, Err, IfOk, List, [], ◌++◌, length, get_or, All, AllPairs, Contains, sym, ap, ap₂, subst, subst₂, ◌∙◌, refl, arith, suc}
 use Rattle.std.specs.Option.{unwrap_or}
 use Rattle.std.proofs.lemmas.List.{get_or_default}
-use Rattle.std.proofs.lemmas.List.Elements.{All-cons, Contains-get_or}
+use Rattle.std.proofs.lemmas.List.Elements.{Contains-get_or}
 use Rattle.std.proofs.lemmas.List.Sorted.{IsPermutation-refl, IsPermutation-sym, Contains-permutation}
 use Rattle.ct_vectors.specs.declared.limits.TheConstants.{GRADE_LIMIT}
-use Rattle.ct_vectors.specs.Vectors.{total, Disjoint}
+use Rattle.ct_vectors.specs.Vectors.{Disjoint}
 use Rattle.ct_instance.specs.declared.jobs.Job.{Job}
 use Rattle.ct_instance.specs.declared.jobs.Job.TheVariants.{Generator, Pair}
 use Rattle.ct_instance.specs.Instance.{Problem, IsInstance}
-use Rattle.ct_instance.specs.Fiber.{IsInFiber}
 use Rattle.ct_instance.specs.TestSet.{Binomial, ComesBefore}
-use Rattle.ct_instance.specs.Walk.{AreMoves, IsWalkEnd}
-use Rattle.ct_instance.specs.Jobs.{IsJob, IsCoprime, job_degree_of, job_grade_of, first_end_of, second_end_of, all_jobs, jobs_at}
-use Rattle.ct_instance.specs.Versions.{Level, upto, everything, Covers, least_above, level_of, version_list, IsVersion, IsRemainder, coprime, meet, differ}
+use Rattle.ct_instance.specs.Walk.{AreMoves}
+use Rattle.ct_instance.specs.Jobs.{IsJob, IsCoprime, job_grade_of, all_jobs, jobs_at}
+use Rattle.ct_instance.specs.Versions.{Level, upto, everything, Covers, least_above, level_of, version_list, IsVersion}
 use Rattle.ct_instance.specs.Reach.{grade_after, last_opened}
 use Rattle.ct_instance.proofs.Lists.{Contains-nil, Contains-map, map_gives}
 use Rattle.ct_instance.proofs.Above.{level_under, least_above_some}
 use Rattle.ct_instance.proofs.JobsList.{jobs_listed, jobs_of_grade_listed}
-use Rattle.ct_walk.specs.Laws.{StaysOrGoesDown}
 use Rattle.ct_walk.specs.Moves.{MoveList}
-use Rattle.ct_walk.proofs.Ends.{ends_in_fiber, the_move_stays}
-use Rattle.ct_walk.proofs.Steps.{leads_down}
-use Rattle.ct_walk.proofs.WalkFacts.{walk_leads, test_list_moves}
+use Rattle.ct_walk.proofs.Ends.{the_move_stays}
+use Rattle.ct_walk.proofs.WalkFacts.{test_list_moves}
 use Rattle.ct_levels.specs.Levels.{job_grades}
 use Rattle.ct_levels.proofs.Levels.{last_opened_next, number_within, opened_is_next, level_is, covers_opened, list_zero}
 use Rattle.ct_levels.proofs.Lists.{is_list_of}
@@ -30,7 +27,7 @@ use Rattle.ct_jobs.specs.declared.graded.GradedJob.{GradedJob}
 use Rattle.ct_jobs.specs.GradedJobs.{AreJobsOf, graded_jobs, graded_pairs_from, with_grade, next_grade}
 use Rattle.ct_jobs.proofs.Growing.{jobs_grow, next_grade_of_all}
 use Rattle.ct_completion.specs.Machine.{opened_jobs}
-use Rattle.ct_completion.specs.Remainders.{points_of, IsGroupMove}
+use Rattle.ct_completion.specs.Remainders.{IsGroupMove}
 use Rattle.ct_completion.proofs.Remainders.{opened_is}
 use Rattle.ct_groups.specs.Groups.{IsSmallPoint}
 use Rattle.ct_handing.proofs.LevelsSoFar.{under_is_below}

@@ -1,14 +1,13 @@
 -- What a solo keeps, and what it hands on.
-use Rattle.std.proofs.Common.{◌≡◌, ℕ, ◌+◌, ◌-◌, ◌≤◌, ◌<◌, Bool, true, false, true≢false, ⊎_elim, Some, List, [], ◌∷◌, ◌++◌, length, map, sym, ap, ap₂, subst, ◌∙◌, refl, arith, suc}
+use Rattle.std.proofs.Common.{◌≡◌, ℕ, ◌+◌, ◌-◌, ◌≤◌, ◌<◌, Bool, true, false, true≢false, Some, List, [], ◌∷◌, ◌++◌, length, map, sym, ap, ap₂, subst, ◌∙◌, refl, arith, suc}
 use Rattle.std.specs.Arc.{arc_value}
-use Rattle.std.proofs.lemmas.Bool.{cases_lt}
 use Rattle.std.proofs.lemmas.List.{length-append, map-append}
 use Rattle.std.proofs.lemmas.Option.{same_Some}
 use Rattle.ct_vectors.specs.declared.limits.TheConstants.{GRADE_LIMIT, MOVE_LIMIT}
 use Rattle.ct_vectors.specs.Vectors.{up_to}
 use Rattle.ct_instance.specs.Instance.{Problem}
 use Rattle.ct_instance.specs.TestSet.{Binomial, test_list}
-use Rattle.ct_instance.specs.Versions.{Level, upto, everything, Covers, level_of, version_list, IsFullGrade}
+use Rattle.ct_instance.specs.Versions.{Level, upto, Covers, level_of, version_list, IsFullGrade}
 use Rattle.ct_instance.specs.Reach.{grade_after, opened_grade, first_level_from}
 use Rattle.ct_levels.proofs.Levels.{list_zero, list_next}
 use Rattle.ct_levels.proofs.Full.{opened_is_full, full_some, no_full_within}

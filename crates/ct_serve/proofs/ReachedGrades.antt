@@ -1,15 +1,16 @@
 -- What help gives has reached the grade.
-use Rattle.std.proofs.Common.{ℕ, ◌-◌, ◌≤◌, ◌≡◌, ⊎_elim, sym, ap, subst, ◌∙◌}
+use Rattle.std.proofs.Common.{ℕ, ◌≤◌, ◌≡◌, ⊎_elim, Some, sym, subst, ◌∙◌}
 use Rattle.std.proofs.lemmas.Bool.{cases_lt}
 use Rattle.std.specs.Arc.{arc_value}
-use Rattle.ct_instance.specs.Versions.{Covers, upto}
+use Rattle.ct_instance.specs.Versions.{Covers}
 use Rattle.ct_instance.specs.Reach.{first_version_from}
 use Rattle.ct_levels.proofs.Levels.{levels_rise}
 use Rattle.ct_levels.proofs.Covering.{first_version_is}
 use Rattle.ct_levels.proofs.Reach.{reach_when_full, reach_when_room}
-use Rattle.ct_version.specs.declared.finished.Finished.TheVariants.{Upto}
+use Rattle.ct_version.specs.declared.finished.Finished.{Finished}
 use Rattle.ct_version.specs.declared.pins.Helped.{Helped}
 use Rattle.ct_version.specs.declared.pins.FullMark.{FullMark}
+use Rattle.ct_version.specs.Editions.{level_seen, level_below}
 use Rattle.ct_version.specs.Desks.{Place, IsHelp, IsFullMark}
 use Rattle.ct_session.specs.Shown.{HasReached}
 use Rattle.ct_answer.proofs.ToldReports.{reach_helped, reach_marked}
@@ -28,11 +29,11 @@ help_reaches p g h help =
 pub held_helped : (p : Place) (g : ℕ) (h : Helped) → IsHelp p g h → IsHeld p g (record { version = h.version; level = h.level })
 held_helped p g h help = record { version = help.version; reached = help_reaches p g h help; level = reach_helped p g h help }
 
-pub held_marked : (p : Place) (g : ℕ) (m : FullMark) (before : ℕ) → IsFullMark p g m → before ≡ m.grade - 1 →
-    IsHeld p g (record { version = m.version; level = Upto before })
-held_marked p g m before mark is =
+pub held_marked : (p : Place) (g : ℕ) (m : FullMark) (level : Finished) → IsFullMark p g m → level_seen level ≡ level_below (Some m.grade) →
+    IsHeld p g (record { version = m.version; level = level })
+held_marked p g m level mark is =
     record {
       version = mark.version;
       reached = λ x c. subst (λ l. Covers l x) (reach_when_full p.instance p.limit g m.grade mark.grade ∙ sym mark.finished) c;
-      level = ap upto is ∙ reach_marked p g m mark;
+      level = is ∙ reach_marked p g m mark;
     }

@@ -8,4 +8,4 @@ returns-in-Ok-clause-held g c = held_helped (desk_place c.args.shared.now.host.n
 
 pub returns-in-Err-Full-clause-held : goal.returns-in-Err-Full-clause-held
 returns-in-Err-Full-clause-held g c =
-    held_marked (desk_place c.args.shared.now.host.now.place) c.args.grade c.in-Err-Full.mark c.saturating_sub.result (search rules) c.saturating_sub.ensures
+    held_marked (desk_place c.args.shared.now.host.now.place) c.args.grade c.in-Err-Full.mark c.below.result (search rules) c.below.ensures

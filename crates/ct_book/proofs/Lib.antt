@@ -4,6 +4,8 @@ pub mod OpenedJobs
 pub mod Keeping
 pub mod FreshBooks
 pub mod OpeningGrades
+pub mod WholeLists
+pub mod OpenedBooks
 pub mod NextVersions
 pub mod ReadyBooks
 pub mod StepAnswers

@@ -1,5 +1,5 @@
 -- The next version: its list, its level, its jobs.
-use Rattle.std.proofs.Common.{◌≡◌, ℕ, ◌+◌, ◌≤◌, ◌<◌, Option, Some, None, List, [], ◌∷◌, ◌++◌, length, map, take, get_or, sym, ap, ap₂, subst₂, ◌∙◌, refl, arith, suc}
+use Rattle.std.proofs.Common.{◌≡◌, ℕ, ◌+◌, ◌≤◌, ◌<◌, Option, Some, None, List, [], ◌∷◌, ◌++◌, length, map, take, get_or, sym, ap, ap₂, subst, subst₂, ◌∙◌, refl, arith, suc}
 use Rattle.std.specs.Option.{unwrap_or}
 use Rattle.std.proofs.lemmas.List.{map-append, take_more}
 use Rattle.ct_vectors.specs.declared.limits.TheConstants.{GRADE_LIMIT}
@@ -18,8 +18,8 @@ use Rattle.ct_version.specs.Editions.{Edition, level_below}
 use Rattle.ct_book.specs.declared.queue.Slot.{Slot}
 use Rattle.ct_book.specs.Queues.{QueueSeen, slot_seen}
 use Rattle.ct_book.specs.Insides.{fresh}
-use Rattle.ct_book.specs.Openings.{left_in, HasOpenedJobs}
-use Rattle.ct_book.proofs.OpeningGrades.{opens_next, level_next_below}
+use Rattle.ct_book.specs.Openings.{left_in, ListsJobs}
+use Rattle.ct_book.proofs.OpeningGrades.{queue_opened, level_next_below}
 
 -- ---- points of slots
 
@@ -91,7 +91,6 @@ module _ (v : Edition) (before after : MoveList) (new : List Binomial) (n : IsNe
       e ∙ ap (λ (d : ℕ). level_below (next_grade d all)) (at ∙ sym next_opened) ∙ sym (level_next_below v.instance (suc v.number) next_is_version all are)
 
   pub next_queue : (all : List GradedJob) (above : ℕ) (q : QueueSeen) → AreJobsOf v.instance (version_list v.instance (suc v.number)) all → above ≡ n.level + 1 →
-      HasOpenedJobs all (next_grade above all) q → q ≡ fresh (opened_jobs v.instance (suc v.number))
+      ListsJobs all (next_grade above all) q → q ≡ fresh (opened_jobs v.instance (suc v.number))
   next_queue all above q are at h =
-      h v.instance (suc v.number) are
-      (opens_next v.instance (suc v.number) next_is_version all are ∙ ap (λ (d : ℕ). next_grade d all) (next_opened ∙ sym at))
+      queue_opened v.instance (suc v.number) next_is_version all are q (subst (λ (d : ℕ). ListsJobs all (next_grade d all) q) (at ∙ sym next_opened) h)

@@ -11,10 +11,19 @@ use Rattle.ct_instance.proofs.JobsList.{jobs_of_grade_listed}
 use Rattle.ct_instance.proofs.Lists.{Contains-nil}
 use Rattle.ct_completion.specs.Machine.{opened_jobs}
 use Rattle.ct_completion.proofs.Remainders.{opened_is}
+use Rattle.ct_book.specs.Openings.{jobs_by}
 
 pub opened_none : (i : Problem) (k : ℕ) → opened_grade i k ≡ None → opened_jobs i k ≡ []
 unfolding opened_jobs
 opened_none i k e = rw e refl
+
+opened_by : (i : Problem) (k : ℕ) (o : Option ℕ) → opened_grade i k ≡ o → opened_jobs i k ≡ jobs_by i (version_list i k) o
+opened_by i k None e = opened_none i k e
+opened_by i k (Some d) e = opened_is i k d e
+
+-- they are the jobs of that grade by the version's list
+pub opened_jobs_by : (i : Problem) (k : ℕ) → opened_jobs i k ≡ jobs_by i (version_list i k) (opened_grade i k)
+opened_jobs_by i k = opened_by i k (opened_grade i k) refl
 
 -- what a job of the opened grade is
 pub record IsOpened (i : Problem) (k : ℕ) (j : Job) : Type 0 where

@@ -1,5 +1,5 @@
 -- The grade that a version opens, found among the jobs of its list.
-use Rattle.std.proofs.Common.{◌≡◌, ℕ, ◌+◌, ◌≤◌, false, List, [], ◌∷◌, ◌++◌, length, map, sym, ap, subst, ◌∙◌, refl, arith, append-nil}
+use Rattle.std.proofs.Common.{◌≡◌, ℕ, ◌+◌, ◌≤◌, false, Option, List, [], ◌∷◌, ◌++◌, length, map, sym, ap, subst, ◌∙◌, refl, arith, append-nil}
 use Rattle.ct_vectors.specs.declared.limits.TheConstants.{MOVE_LIMIT}
 use Rattle.ct_instance.specs.Instance.{Problem}
 use Rattle.ct_instance.specs.TestSet.{Binomial}
@@ -21,8 +21,9 @@ use Rattle.ct_book.specs.Logs.{LogSeen}
 use Rattle.ct_book.specs.Queues.{QueueSeen}
 use Rattle.ct_book.specs.Books.{BookSeen}
 use Rattle.ct_book.specs.Insides.{IsBook, book_in, state_in, fresh}
-use Rattle.ct_book.specs.Openings.{HasOpenedJobs}
+use Rattle.ct_book.specs.Openings.{jobs_by, ListsJobs}
 use Rattle.ct_book.proofs.Keeping.{inside_of}
+use Rattle.ct_book.proofs.OpenedJobs.{opened_jobs_by}
 use Rattle.ct_book.proofs.FreshBooks.{fresh_book, fresh_state, opening_replay}
 
 module _ (i : Problem) (k : ℕ) (v : IsVersion i k) (js : List GradedJob) (are : AreJobsOf i (version_list i k) js) where
@@ -33,6 +34,10 @@ module _ (i : Problem) (k : ℕ) (v : IsVersion i k) (js : List GradedJob) (are 
   level_next_below =
       level_is i k v ∙ ap level_under (sym (next_grade_of_all i (version_list i k) js (last_opened i k) are)) ∙ under_is_below (next_grade (last_opened i k) js)
 
+  pub queue_opened : (q : QueueSeen) → ListsJobs js (next_grade (last_opened i k) js) q → q ≡ fresh (opened_jobs i k)
+  queue_opened q h =
+      h i (version_list i k) are ∙ ap (λ (o : Option ℕ). fresh (jobs_by i (version_list i k) o)) (sym opens_next) ∙ ap fresh (sym (opened_jobs_by i k))
+
 -- the empty list
 jobs_of_none : (i : Problem) (js none : List GradedJob) → AreJobsOf i [] js → none ≡ [] → AreJobsOf i (version_list i 0) (js ++ none)
 jobs_of_none i js none are e =
@@ -42,9 +47,9 @@ jobs_of_none i js none are e =
 pub level_at_zero : (i : Problem) (js none : List GradedJob) → AreJobsOf i [] js → none ≡ [] → (l : Level) → l ≡ level_below (next_grade 0 (js ++ none)) → l ≡ level_of i 0
 level_at_zero i js none are e l same = same ∙ sym (level_next_below i 0 tt (js ++ none) (jobs_of_none i js none are e))
 
-pub queue_at_zero : (i : Problem) (js none : List GradedJob) → AreJobsOf i [] js → none ≡ [] → (q : QueueSeen) → HasOpenedJobs (js ++ none) (next_grade 0 (js ++ none)) q →
+pub queue_at_zero : (i : Problem) (js none : List GradedJob) → AreJobsOf i [] js → none ≡ [] → (q : QueueSeen) → ListsJobs (js ++ none) (next_grade 0 (js ++ none)) q →
     q ≡ fresh (opened_jobs i 0)
-queue_at_zero i js none are e q h = h i 0 (jobs_of_none i js none are e) (opens_next i 0 tt (js ++ none) (jobs_of_none i js none are e))
+queue_at_zero i js none are e q h = queue_opened i 0 tt (js ++ none) (jobs_of_none i js none are e) q h
 
 pub zero_book : (i : Problem) (v : Edition) → v ≡ record { instance = i; number = 0 } → IsEdition v → (limit : ℕ) → limit ≤ MOVE_LIMIT →
     (levels : List Finished) (l : Finished) → levels ≡ l ∷ [] → level_seen l ≡ level_of i 0 → (js : List GradedJob) → AreJobsOf i [] js →
@@ -62,7 +67,7 @@ zero_book i v same edition limit most levels l only level js are q queue log non
     (subst (λ (w : Edition). IsReplay w.instance limit [] (just_opened w.instance w.number)) (sym same) (opening_replay i limit)))
     (omega (arith, room))
 
-abbrev seen_with : Problem → ℕ → ℕ → CompletionState → List Entry → BookSeen
+abbrev pub seen_with : Problem → ℕ → ℕ → CompletionState → List Entry → BookSeen
 seen_with i limit passes s es = record { instance = i; limit = limit; passes = passes; state = s; journal = es }
 
 pub zero_seen : (i : Problem) (v : Edition) → v ≡ record { instance = i; number = 0 } → (limit passes : ℕ) (levels : List Finished) (js : List GradedJob) →

@@ -5,4 +5,5 @@ pub mod Books
 pub mod Batches
 pub mod Insides
 pub mod Openings
+pub mod Bringing
 pub mod Benches

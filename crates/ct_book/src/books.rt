@@ -1,8 +1,9 @@
 //! The book.
-ghost use Rattle.std.specs.Prelude.{◌≡◌, ◌≤◌, ◌<◌, ◌+◌, ◌^◌, [], ◌∷◌, ◌++◌, ◌↔◌, ℕ, length, vec_len, vec_capacity, All, IsPermutation, IfOk, OnOk, OnErr, MatchResult, IsTrue};
+ghost use Rattle.std.specs.Prelude.{◌≡◌, ◌≤◌, ◌<◌, ◌+◌, ◌^◌, [], ◌↔◌, ℕ, length, All, IfOk, OnOk, OnErr, MatchResult, IsTrue};
 ghost use Rattle.ct_vectors.specs.declared.limits.TheConstants.{GRADE_LIMIT, MOVE_LIMIT, PASS_LIMIT};
 
 use crate::batches::{Batch, Reduced, hand_out_beside, take_in_all};
+use crate::bringing::{Brought, brought_to, buckets_of};
 use crate::completing::complete;
 use crate::log::Log;
 use crate::opening::{Opening, opened_above};
@@ -10,6 +11,7 @@ use crate::outcomes::{Committed, Next, Published, Step};
 use crate::publishing::{Following, moves_left, next_version};
 use crate::queue::Queue;
 use crate::remainders::{Left, Remainder};
+use crate::room::{make_room, only, room_for};
 use crate::tasks::{PlacedJob, Task};
 use ct_completion::{Act, Entry};
 use ct_handing::{helped, marked, shared};
@@ -47,7 +49,10 @@ impl Model for Book {
 
 impl Book {
     ghost use Rattle.std.specs.Arc.{arc_value};
+    ghost use Rattle.ct_instance.specs.TestSet.{test_list};
+    ghost use Rattle.ct_instance.specs.Reach.{first_version_from};
     ghost use Rattle.ct_completion.specs.Machine.{hands_out, just_opened};
+    ghost use Rattle.ct_completion.specs.OnePass.{journal_to};
     ghost use Rattle.ct_completion.specs.Journal.{entries_of, AreSerials, IsReplay};
     ghost use Rattle.ct_version.specs.Editions.{IsEdition};
     ghost use Rattle.ct_version.specs.Desks.{IsOfPlace};
@@ -74,6 +79,52 @@ impl Book {
         let log = room_for(alloc, passes, queue.len())?;
         let levels = only(alloc, finished)?;
         let version = shared(alloc, Version::new(Moves::new(alloc, inst), 0, finished))?;
+        // For its facts alone: there is such a version.
+        let _number = version.number();
+        Ok(Book {
+            version,
+            limit,
+            full: false,
+            levels,
+            buckets,
+            queue,
+            log,
+        })
+    }
+
+    /// A book at the first version that covers this grade, whose test list the moves are, with its grade opened. Its
+    /// journal is the one that pass 0 alone writes which takes all jobs on the way there in job order; none is reduced. It
+    /// is linear in the jobs, where the jobs are prepared times the support of a head, and takes 40 bytes for each job up
+    /// to the grade beside what a book takes that came there.
+    pub fn open_at(
+        alloc: Global,
+        inst: Arc<Instance>,
+        limit: u32,
+        passes: u32,
+        moves: Moves,
+        grade: u64,
+    ) -> Result<Book, AllocError>
+        requires some { 1 ≤ limit }
+        requires most { limit ≤ MOVE_LIMIT }
+        requires some_pass { 1 ≤ passes }
+        requires passes { passes ≤ PASS_LIMIT }
+        requires grade { grade ≤ GRADE_LIMIT }
+        requires instance { moves.instance ≡ arc_value inst }
+        requires list { moves.moves ≡ test_list (arc_value inst) grade }
+        requires within { length moves.moves ≤ limit }
+        ensures { IfOk result (λ b. b ≡ record { instance = arc_value inst; limit = limit; passes = passes; state = just_opened (arc_value inst) (first_version_from (arc_value inst) grade); journal = journal_to (arc_value inst) (first_version_from (arc_value inst) grade) }) }
+    {
+        // For its facts alone: the instance is within the limits.
+        let _rows = inst.rows();
+        let buckets = buckets_of(alloc, &inst, &moves)?;
+        let Brought {
+            number,
+            levels,
+            finished,
+            queue,
+            log,
+        } = brought_to(alloc, &inst, &buckets, passes, grade)?;
+        let version = shared(alloc, Version::new(moves, number, finished))?;
         // For its facts alone: there is such a version.
         let _number = version.number();
         Ok(Book {
@@ -340,47 +391,4 @@ impl Book {
     {
         complete(self, alloc, by, target)
     }
-}
-
-// A journal with room for the entries that so many jobs can bring, and one more.
-fn room_for(alloc: Global, passes: u32, jobs: usize) -> Result<Log, AllocError>
-    requires { jobs < 2 ^ 63 }
-    ensures entries { IfOk result (λ l. l.entries ≡ []) }
-    ensures passes { IfOk result (λ l. l.passes ≡ passes) }
-    ensures room { IfOk result (λ l. jobs + 1 ≤ l.room) }
-{
-    let mut log = Log::new(alloc, passes)?;
-    log.reserve(jobs + 1)?;
-    Ok(log)
-}
-
-// The one level.
-fn only(alloc: Global, level: Finished) -> Result<Vec<Finished>, AllocError>
-    ensures { IfOk result (λ v. v.items ≡ level ∷ []) }
-{
-    let mut levels = Vec::new(alloc);
-    levels.push(level)?;
-    Ok(levels)
-}
-
-// Makes room for one addition, one level, and the entries that so many jobs can bring, beside the one of publishing.
-fn make_room(
-    buckets: &mut Buckets,
-    levels: &mut Vec<Finished>,
-    log: &mut Log,
-    jobs: usize,
-) -> Result<(), AllocError>
-    requires { jobs < 2 ^ 63 }
-    ensures jobs { IsPermutation buckets.old.jobs buckets.new.jobs }
-    ensures spare { OnOk result (1 ≤ buckets.new.spare) }
-    ensures levels { levels.new.items ≡ levels.old.items }
-    ensures level_room { OnOk result (vec_len levels.new < vec_capacity levels.new) }
-    ensures entries { log.new.entries ≡ log.old.entries }
-    ensures passes { log.new.passes ≡ log.old.passes }
-    ensures room { log.old.room ≤ log.new.room }
-    ensures entry_room { OnOk result (length log.new.entries + (jobs + 2) ≤ log.new.room) }
-{
-    buckets.reserve()?;
-    levels.reserve(1)?;
-    log.reserve(jobs + 2)
 }

@@ -4,6 +4,7 @@
 mod batches;
 mod benches;
 mod books;
+mod bringing;
 mod completing;
 mod ends;
 mod log;
@@ -13,6 +14,7 @@ mod publishing;
 mod queue;
 mod reducing;
 mod remainders;
+mod room;
 mod tasks;
 
 pub use batches::{Batch, Reduced};

@@ -6,7 +6,7 @@ ghost use Rattle.ct_instance.specs.Jobs.{jobs_at};
 ghost use Rattle.ct_jobs.specs.GradedJobs.{next_grade, AreJobsOf};
 ghost use Rattle.ct_version.specs.Editions.{level_seen, level_below};
 ghost use Rattle.ct_book.specs.Insides.{fresh};
-ghost use Rattle.ct_book.specs.Openings.{HasOpenedJobs};
+ghost use Rattle.ct_book.specs.Openings.{ListsJobs};
 
 use crate::queue::Queue;
 use ct_jobs::{Addition, Buckets};
@@ -28,7 +28,7 @@ pub fn opened_above(
     above: u64,
 ) -> Result<Opening, AllocError>
     ensures level { IfOk result (λ o. level_seen o.finished ≡ level_below (next_grade above (buckets.now.jobs ++ more.now))) }
-    ensures jobs { IfOk result (λ o. HasOpenedJobs (buckets.now.jobs ++ more.now) (next_grade above (buckets.now.jobs ++ more.now)) o.queue) }
+    ensures jobs { IfOk result (λ o. ListsJobs (buckets.now.jobs ++ more.now) (next_grade above (buckets.now.jobs ++ more.now)) o.queue) }
 {
     match buckets.next_with(above, more) {
         None => nothing_opened(alloc),

@@ -74,6 +74,14 @@ impl Queue {
         self.jobs.len()
     }
 
+    // The job at this place.
+    pub fn job(&self, place: usize) -> Job
+        requires { place < length self.now.jobs }
+        ensures { slice_get self.now.jobs place ≡ Some result }
+    {
+        self.jobs[place]
+    }
+
     // How many jobs wait.
     pub fn left(&self) -> usize
         ensures left { result ≡ length self.now.order }

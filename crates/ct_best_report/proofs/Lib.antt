@@ -1,3 +1,4 @@
 pub mod Written
 pub mod Paired
 pub mod Asked
+pub mod Shown

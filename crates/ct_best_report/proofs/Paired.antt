@@ -1,8 +1,8 @@
 -- Solutions with their costs, and answers beside their requests.
-use Rattle.std.proofs.Common.{◌≡◌, ℕ, ◌+◌, ◌<◌, ◌≤◌, List, [], ◌∷◌, ◌++◌, length, get_or, take, drop, map, replicate, All, false, sym, subst, ap, ◌∙◌, arith}
+use Rattle.std.proofs.Common.{◌≡◌, ℕ, ◌+◌, ◌<◌, ◌≤◌, List, [], ◌∷◌, ◌++◌, length, get_or, take, drop, map, replicate, All, false, sym, subst, ap, ap₂, ◌∙◌, arith}
 use Rattle.std.specs.List.{AllZip}
-use Rattle.std.proofs.lemmas.List.{take-take, take_at, take_more}
-use Rattle.std.proofs.lemmas.List.Elements.{All-take, All-append, All-drop, All-replicate}
+use Rattle.std.proofs.lemmas.List.{take-take, take_at, take_more, map_push, map_more}
+use Rattle.std.proofs.lemmas.List.Elements.{All-nil, All-cons, All-take, All-append, All-drop, All-replicate, All-weaker}
 use Rattle.ct_vectors.specs.Vectors.{total, zeros}
 use Rattle.ct_vectors.specs.declared.limits.TheConstants.{GRADE_LIMIT, JOB_GRADE_LIMIT}
 use Rattle.ct_order.specs.Order.{cost_of}
@@ -37,6 +37,18 @@ solution_small i inst b x asked s k d l =
     let grade : grade_of i.columns (point_of i x) ≤ GRADE_LIMIT = subst (λ (g : ℕ). g ≤ GRADE_LIMIT) (sym (ap total fiber.degree)) (right-total i inst b asked.right asked.limit) in
     subst (λ (a : ℕ). a ≤ JOB_GRADE_LIMIT) (get_or_append_left x (zeros i.rows) d k l)
     (small_coordinates i inst (point_of i x) grade k d (omega (arith, l, length-append x (zeros i.rows))))
+
+-- a list and what it is made of, with one more of each
+pub made_more : {X Y Z : Type 0} (f : X → Z) (g : Y → Z) (xs : List X) (ys : List Y) (i : ℕ) (x : X) (y : Y) → i < length ys → y ≡ get_or ys i y →
+    map f xs ≡ map g (take i ys) → f x ≡ g y → map f (xs ++ x ∷ []) ≡ map g (take (i + 1) ys)
+made_more f g xs ys i x y inside is so_far same =
+    map_push f xs x ∙ ap₂ (λ zs z. zs ++ z ∷ []) so_far (same ∙ ap g is) ∙ sym (map_more g ys i y inside)
+
+-- what holds of all in front, and of one more
+pub all_more : {X : Type 0} (P Q : X → Type 0) (xs : List X) (i : ℕ) (x : X) → i < length xs → x ≡ get_or xs i x → ((y : X) → P y → Q y) → All P (take i xs) → Q x → All Q (take (i + 1) xs)
+all_more P Q xs i x inside is weaker all here =
+    subst (All Q) (ap (λ z. take i xs ++ z ∷ []) is ∙ sym (take_more xs i x inside))
+    (All-append Q (take i xs) (x ∷ []) (All-weaker P Q weaker (take i xs) all) (All-cons Q x [] here (All-nil Q)))
 
 -- one more beside its partner
 zip_push : {X Y : Type 0} (R : X → Y → Type 0) (xs : List X) (ys : List Y) (x : X) (y : Y) → AllZip R xs ys → R x y → AllZip R (xs ++ x ∷ []) (ys ++ y ∷ [])

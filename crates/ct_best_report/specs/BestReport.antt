@@ -1,5 +1,5 @@
 -- What is told of the least solutions of each request.
-use Rattle.std.specs.Prelude.{ℕ, ◌≡◌, ◌≤◌, List, map, All, Some, None}
+use Rattle.std.specs.Prelude.{ℕ, ◌≡◌, ◌≤◌, List, take, map, All, Some, None}
 use Rattle.std.specs.List.{flat_map, AllZip}
 use Rattle.ct_vectors.specs.declared.limits.TheConstants.{RIGHT_LIMIT}
 use Rattle.ct_instance.specs.Instance.{Problem, IsRight}
@@ -22,16 +22,19 @@ pub record IsAsked (i : Problem) (b : List ℕ) : Type 0 where
   pub right : IsRight i b
   pub limit : All (λ x. x ≤ RIGHT_LIMIT) b
 
--- the k least solutions for b, each with its costs
-pub record AreBestWithCosts (i : Problem) (k : ℕ) (b : List ℕ) (solutions : List Solution) : Type 0 where
-  pub best : AreBest i k b (map (λ s. s.point) solutions)
-  pub paid : All (λ s. s.costs ≡ costs_of i s.point) solutions
+-- the k least solutions for b, of each its first n numbers, with the costs of all its numbers
+pub record AreBestWithCosts (i : Problem) (n k : ℕ) (b : List ℕ) (solutions : List Solution) : Type 0 where
+  pub points : List (List ℕ)
+  pub best : AreBest i k b points
+  pub shown : map (λ s. s.point) solutions ≡ map (take n) points
+  pub paid : map (λ s. s.costs) solutions ≡ map (costs_of i) points
 
--- what is told of the numbers of a request: the full grade where it is at most their sum, and else the k least
-abbrev pub IsBestAnswer : Case → ℕ → List ℕ → BestAnswer → Type 0
-IsBestAnswer c k b (Full grade) = full_grade_up_to c.instance c.limit (sum_of c b) ≡ Some grade
-IsBestAnswer c k b (Found solutions) = (full_grade_up_to c.instance c.limit (sum_of c b) ≡ None) × AreBestWithCosts c.instance k (c.right b) solutions
+-- what is told of the numbers of a request: the full grade where it is at most their sum, and else the k least, of each its
+-- first n numbers
+abbrev pub IsBestAnswer : Case → ℕ → ℕ → List ℕ → BestAnswer → Type 0
+IsBestAnswer c n k b (Full grade) = full_grade_up_to c.instance c.limit (sum_of c b) ≡ Some grade
+IsBestAnswer c n k b (Found solutions) = (full_grade_up_to c.instance c.limit (sum_of c b) ≡ None) × AreBestWithCosts c.instance n k (c.right b) solutions
 
 -- one answer for each request, in order
-abbrev pub IsBestReport : Case → ℕ → Script → List BestAnswer → Type 0
-IsBestReport c k script answers = AllZip (IsBestAnswer c k) (rights_in script) answers
+abbrev pub IsBestReport : Case → ℕ → ℕ → Script → List BestAnswer → Type 0
+IsBestReport c n k script answers = AllZip (IsBestAnswer c n k) (rights_in script) answers

@@ -1,3 +1,4 @@
 pub mod BestReport
 pub mod BestText
 pub mod Found
+pub mod Laws

@@ -1,5 +1,5 @@
 //! Solutions with their costs.
-ghost use Rattle.std.specs.Prelude.{◌≡◌, ◌≤◌, length, map, All, IfOk};
+ghost use Rattle.std.specs.Prelude.{◌≡◌, ◌≤◌, length, take, map, All, IfOk};
 ghost use Rattle.ct_vectors.specs.declared.limits.TheConstants.{JOB_GRADE_LIMIT};
 ghost use Rattle.ct_instance.specs.Instance.{column_count};
 ghost use Rattle.ct_instance.specs.Answer.{costs_of as costs_in};
@@ -25,22 +25,51 @@ fn cost_list(inst: &Instance, x: &Point) -> CostList
     costs_of(inst.costs(), &padded[..n + 1])
 }
 
-/// Each with its costs.
+// Keeps the first coordinates, at most so many.
+fn cut(point: &mut Point, columns: usize)
+    requires { 1 ≤ columns }
+    ensures { point.new ≡ take columns point.old }
+{
+    if columns < point.as_slice().len() {
+        point.truncate(columns);
+    }
+}
+
+// A solution, of which so many columns are shown, with the costs of all.
+fn solution_of(
+    alloc: Global,
+    inst: &Instance,
+    x: &Point,
+    columns: usize,
+) -> Result<Solution, AllocError>
+    requires numbers { length x.now ≡ column_count inst.now }
+    requires limit { All (λ a. a ≤ JOB_GRADE_LIMIT) x.now }
+    requires columns { 1 ≤ columns }
+    ensures shown { IfOk result (λ s. s.point ≡ take columns x.now) }
+    ensures paid { IfOk result (λ s. s.costs ≡ costs_in inst.now x.now) }
+{
+    let costs = cost_list(inst, x);
+    let mut point = x.copy(alloc)?;
+    cut(&mut point, columns);
+    Ok(Solution { point, costs })
+}
+
+/// Each, cut to the columns that are shown, with its costs.
 pub fn with_costs(
     alloc: Global,
     inst: &Instance,
     list: &BestList,
+    columns: usize,
 ) -> Result<Seq<Solution>, AllocError>
     requires numbers { All (λ x. length x ≡ column_count inst.now) list.now }
     requires limit { All (λ x. All (λ a. a ≤ JOB_GRADE_LIMIT) x) list.now }
-    ensures points { IfOk result (λ solutions. map (λ s. s.point) solutions ≡ list.now) }
-    ensures paid { IfOk result (λ solutions. All (λ s. s.costs ≡ costs_in inst.now s.point) solutions) }
+    requires columns { 1 ≤ columns }
+    ensures shown { IfOk result (λ solutions. map (λ s. s.point) solutions ≡ map (take columns) list.now) }
+    ensures paid { IfOk result (λ solutions. map (λ s. s.costs) solutions ≡ map (costs_in inst.now) list.now) }
 {
     let mut solutions = Vec::new(alloc);
     for i in 0..list.len() {
-        let point = list.get(i).copy(alloc)?;
-        let costs = cost_list(inst, &point);
-        solutions.push(Solution { point, costs })?;
+        solutions.push(solution_of(alloc, inst, list.get(i), columns)?)?;
     }
     Ok(Seq::from_vec(solutions))
 }

@@ -7,7 +7,7 @@ use ct_order::CostList;
 use ct_point::{Point, Seq};
 use std::alloc::{AllocError, Global};
 
-/// A solution, n numbers, with its cost by each row.
+/// A solution by the numbers of the columns that are shown, with its cost by each row.
 #[derive(Debug, Drop)]
 pub struct Solution {
     pub point: Point,

@@ -2,7 +2,7 @@
 use Rattle.std.specs.Prelude.{◌≡◌, ℕ, ◌++◌, ◌⊎◌, Bool, true, false, List, Option, codes, decimal}
 use Rattle.std.specs.Io.KnownBytes.{Appends}
 use Rattle.ct_outside.specs.Sink.{AppendsFront}
-use Rattle.ct_instance.specs.Instance.{Problem}
+use Rattle.ct_instance.specs.Instance.{Problem, column_count}
 use Rattle.ct_input.specs.declared.fault.Fault.{Fault}
 use Rattle.ct_input.specs.declared.script.Script.{Script}
 use Rattle.ct_input.specs.FaultText.{fault_text}
@@ -42,9 +42,9 @@ IsReportOf c script text = (report : Report) × (IsLegalAnswered c script report
 abbrev pub IsServedReportOf : Case → Script → List ℕ → Type 0
 IsServedReportOf c script text = (report : Report) × (IsLegalServed c script report × (text ≡ report_text report))
 
--- a text of what is told of the least solutions of each request
+-- a text of what is told of the least solutions of each request, all columns shown
 abbrev pub IsBestOf : Case → ℕ → Script → List ℕ → Type 0
-IsBestOf c count script text = (answers : List BestAnswer) × (IsBestReport c count script answers × (text ≡ best_text answers))
+IsBestOf c count script text = (answers : List BestAnswer) × (IsBestReport c (column_count c.instance) count script answers × (text ≡ best_text answers))
 
 -- the status and the text with which the outcome ends
 abbrev pub IsEnding : RunOutcome → Status → List ℕ → Type 0

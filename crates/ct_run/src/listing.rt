@@ -57,7 +57,14 @@ pub fn best_ending(
         return too_many_ending(alloc, rights.len() as u64);
     }
     let shared = Arc::try_clone(inst)?;
-    let report = best_report(alloc, shared, &rights, options.limit, count as u32)?;
+    let report = best_report(
+        alloc,
+        shared,
+        &rights,
+        options.limit,
+        inst.columns(),
+        count as u32,
+    )?;
     Ok(Ending {
         status: Status::Done,
         text: Seq::from_vec(report.print(alloc)?),

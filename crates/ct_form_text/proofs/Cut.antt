@@ -4,6 +4,7 @@ use Rattle.std.specs.Prelude.{sum_by}
 use Rattle.ct_vectors.specs.declared.limits.TheConstants.{ROW_LIMIT, COLUMN_LIMIT, ENTRY_LIMIT}
 use Rattle.ct_input.specs.declared.limits.TheConstants.{INSTANCE_FILE_LIMIT}
 use Rattle.ct_input.specs.declared.fault.Fault.{Fault}
+use Rattle.ct_input.specs.Sheet.{◌>>=◌}
 use Rattle.ct_input.specs.Grammar.{numbers}
 use Rattle.ct_input.specs.InstanceText.{cost_rows}
 use Rattle.ct_input.specs.Files.{value_in}
@@ -12,7 +13,7 @@ use Rattle.ct_input.proofs.CutGrammars.{Stops}
 use Rattle.ct_input.proofs.CutTexts.{Plain, stops_part, plain_part, plain_numbers, plain_exactly, plain_cost_rows, cut_text, text_ends}
 use Rattle.ct_form.specs.Made.{given_of}
 use Rattle.ct_form_text.specs.FormText.{slacks_of, relation, bound, relations, bounds, form_number, given_limits, limits, form_text}
-use Rattle.ct_form_text.specs.Files.{draft_file}
+use Rattle.ct_form_text.specs.Files.{form_file}
 
 plain_relation : (spare : ℕ) → Plain (relation spare)
 unfolding Plain
@@ -49,17 +50,21 @@ within_ok : {X : Type 0} (over : Bool) (e : Fault) (r : Result X Fault) → IsOk
 within_ok true e r h = absurd cc
 within_ok false e r h = h
 
+bind_ok : {X Y : Type 0} (r : Result X Fault) (f : X → Result Y Fault) → IsOk (r >>= f) → IsOk r
+bind_ok (Ok x) f h = refl
+bind_ok (Err e) f h = h
+
 err_of : {X : Type 0} (r : Result X Fault) → (IsOk r → ⊥) → IsErr r
 err_of (Ok x) h = absurd (h refl)
 err_of (Err e) h = refl
 
-draft_value : (bytes : List ℕ) → IsOk (draft_file bytes) → IsOk (value_in form_text bytes)
-unfolding draft_file
-draft_value bytes h = within_ok (nat_lt INSTANCE_FILE_LIMIT (length bytes)) _ _ h
+form_value : (bytes : List ℕ) → IsOk (form_file bytes) → IsOk (value_in form_text bytes)
+unfolding form_file
+form_value bytes h = bind_ok (value_in form_text bytes) _ (within_ok (nat_lt INSTANCE_FILE_LIMIT (length bytes)) _ _ h)
 
-pub form_cut : (front more : List ℕ) → IsOk (draft_file (front ++ more)) → IsCutBefore front more → IsErr (draft_file front)
+pub form_cut : (front more : List ℕ) → IsOk (form_file (front ++ more)) → IsCutBefore front more → IsErr (form_file front)
 form_cut front more whole is_cut =
-    err_of (draft_file front) (λ part_of. cut_text form_text stops_form_text front more is_cut (draft_value (front ++ more) whole) (draft_value front part_of))
+    err_of (form_file front) (λ part_of. cut_text form_text stops_form_text front more is_cut (form_value (front ++ more) whole) (form_value front part_of))
 
-pub form_ends : (bytes : List ℕ) → IsOk (draft_file bytes) → EndsWithEnd bytes
-form_ends bytes whole = text_ends form_text stops_form_text bytes (draft_value bytes whole)
+pub form_ends : (bytes : List ℕ) → IsOk (form_file bytes) → EndsWithEnd bytes
+form_ends bytes whole = text_ends form_text stops_form_text bytes (form_value bytes whole)

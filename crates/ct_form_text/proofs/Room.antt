@@ -1,5 +1,5 @@
 -- What the values are that the grammar of forms can give: the equality form has room.
-use Rattle.std.proofs.Common.{◌≡◌, ℕ, zero, suc, ◌+◌, ◌-◌, ◌≤◌, min, All, Bool, true, false, List, [], ◌∷◌, ◌++◌, length, Option, Some, None, Ok, Err, Result, IfOk, refl, sym, ap, ◌∙◌, subst, arith}
+use Rattle.std.proofs.Common.{◌≡◌, ℕ, zero, suc, ◌+◌, ◌-◌, ◌≤◌, min, All, Bool, true, false, List, [], ◌∷◌, length, Option, Some, None, Ok, Err, Result, IfOk, refl, sym, ap, ◌∙◌, subst, arith}
 use Rattle.std.specs.Prelude.{sum_by}
 use Rattle.std.proofs.lemmas.List.{length-map, length-replicate}
 use Rattle.std.proofs.lemmas.List.Sums.{sum_by-append}
@@ -7,16 +7,16 @@ use Rattle.std.proofs.lemmas.List.Elements.{All-cons, All-nil, All-tail}
 use Rattle.ct_vectors.specs.declared.limits.TheConstants.{ROW_LIMIT, COLUMN_LIMIT, RIGHT_LIMIT}
 use Rattle.ct_input.specs.declared.fault.InputStop.{InputStop}
 use Rattle.ct_input.specs.Sheet.{Sheet, Gives}
-use Rattle.ct_input.specs.Grammar.{Grammar, done, part, exactly, read}
+use Rattle.ct_input.specs.Grammar.{Grammar, exactly, read}
 use Rattle.ct_input.proofs.Yields.{Yields, read_yields, yields-part}
 use Rattle.ct_form.specs.declared.relation.Relation.{Relation}
 use Rattle.ct_form.specs.declared.relation.Relation.TheVariants.{Eq, Le}
 use Rattle.ct_form.specs.declared.relation.Limits.{Limits}
 use Rattle.ct_form.specs.Forms.{given_in}
 use Rattle.ct_form.specs.EqualityForms.{row_slacks}
-use Rattle.ct_form.specs.Made.{given_of}
+use Rattle.ct_form.specs.Made.{given_of, plain_limits}
 use Rattle.ct_form.proofs.Plain.{none_given, no_slacks}
-use Rattle.ct_form_text.specs.FormText.{slacks_of, relation, bound, relations, bounds, plain_limits, given_limits, limits}
+use Rattle.ct_form_text.specs.FormText.{slacks_of, relation, bound, relations, bounds, given_limits, limits}
 use Rattle.ct_form_text.specs.Files.{HasRoom}
 
 sum_more : {X : Type 0} (f : X → ℕ) (x : X) (xs : List X) → sum_by f (x ∷ xs) ≡ f x + sum_by f xs
@@ -77,7 +77,7 @@ plain_has_room m n few-rows few-columns = record {
   bound_limit = subst (All (λ u. u ≤ RIGHT_LIMIT)) (sym (none_given n)) (All-nil (λ u. u ≤ RIGHT_LIMIT));
 }
 
-yields-limits : (limited : Bool) (m n : ℕ) → m ≤ ROW_LIMIT → n ≤ COLUMN_LIMIT → Yields (HasRoom m n) (limits limited m n)
+pub yields-limits : (limited : Bool) (m n : ℕ) → m ≤ ROW_LIMIT → n ≤ COLUMN_LIMIT → Yields (HasRoom m n) (limits limited m n)
 unfolding given_limits
 yields-limits false m n few-rows few-columns = plain_has_room m n few-rows few-columns
 yields-limits true m n few-rows few-columns =

@@ -1,5 +1,5 @@
 -- The file's form, or the fault of its least column that is zero and has no bound.
-use Rattle.std.proofs.Common.{◌≡◌, ℕ, ◌+◌, ◌≤◌, ltb, Bool, true, false, List, length, Option, Some, None, Result, Ok, Err, refl, sym, ap, ◌∙◌, cond}
+use Rattle.std.proofs.Common.{◌≡◌, ℕ, ◌+◌, ltb, Bool, true, false, List, length, Option, Some, None, Result, Ok, Err, refl, sym, ap, ◌∙◌, cond}
 use Rattle.std.specs.Option.{option_map}
 use Rattle.ct_text.specs.Tokens.{text_of}
 use Rattle.ct_instance.specs.declared.refusals.BadMatrix.{BadMatrix}
@@ -11,8 +11,8 @@ use Rattle.ct_input.specs.declared.fault.Fault.TheVariants.{TooLong}
 use Rattle.ct_input.specs.declared.fault.InputStop.{InputStop}
 use Rattle.ct_input.specs.declared.fault.InputStop.TheVariants as stops
 use Rattle.ct_input.specs.declared.fault.TextReason.TheVariants as reasons
-use Rattle.ct_input.specs.Sheet.{Sheet, ◌>>=◌, Fails, sheet_of, fault_next}
-use Rattle.ct_input.specs.Files.{value_in, within, entry_sheet}
+use Rattle.ct_input.specs.Sheet.{◌>>=◌, Fails, sheet_of, fault_next}
+use Rattle.ct_input.specs.Files.{value_in, entry_sheet}
 use Rattle.ct_input.specs.Refusals.{stop_of}
 use Rattle.ct_form.specs.Forms.{Form}
 use Rattle.ct_form.specs.Kept.{free_zero_of}

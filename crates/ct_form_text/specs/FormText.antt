@@ -1,12 +1,12 @@
 -- The form text: one grammar for both of its forms, of which the first is the instance text.
-use Rattle.std.specs.Prelude.{ℕ, zero, suc, ◌-◌, ◌*◌, min, Bool, true, false, List, Option, Some, None, replicate, sum_by, codes}
+use Rattle.std.specs.Prelude.{ℕ, zero, suc, ◌-◌, ◌*◌, min, Bool, true, false, List, Option, Some, None, sum_by, codes}
 use Rattle.ct_vectors.specs.declared.limits.TheConstants.{ROW_LIMIT, COLUMN_LIMIT, ENTRY_LIMIT, RIGHT_LIMIT}
 use Rattle.ct_input.specs.Grammar.{Grammar, done, nothing, word, number, fork, barred, only, ◌then◌, part, numbers, exactly}
 use Rattle.ct_input.specs.InstanceText.{cost_rows}
 use Rattle.ct_form.specs.declared.relation.Relation.{Relation}
 use Rattle.ct_form.specs.declared.relation.Relation.TheVariants.{Eq, Le}
 use Rattle.ct_form.specs.declared.relation.Limits.{Limits}
-use Rattle.ct_form.specs.Made.{given_of}
+use Rattle.ct_form.specs.Made.{given_of, plain_limits}
 use Rattle.ct_form_text.specs.declared.draft.FormDraft.{FormDraft}
 
 -- how many slack columns a row has in the equality form
@@ -45,9 +45,6 @@ relations m spare = exactly relation slacks_of m spare
 
 abbrev pub bounds : ℕ → ℕ → Grammar (List (Option ℕ))
 bounds n spare = exactly bound given_of n spare
-
-abbrev pub plain_limits : ℕ → ℕ → Limits
-plain_limits m n = record { relations = replicate m Eq; bounds = replicate n None }
 
 -- The columns that are spare are those of the limit without the n and a slack for each row `le`; the rows those without the m.
 unfoldable pub given_limits : ℕ → ℕ → Grammar Limits

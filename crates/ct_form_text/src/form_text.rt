@@ -4,7 +4,7 @@ ghost use Rattle.std.specs.Prelude.{◌≡◌, ◌-◌, ◌≤◌, IfOk, length,
 ghost use Rattle.ct_vectors.specs.declared.limits.TheConstants.{ROW_LIMIT, COLUMN_LIMIT};
 ghost use Rattle.ct_input.specs.Sheet.{Gives};
 ghost use Rattle.ct_input.specs.Grammar.{read};
-ghost use Rattle.ct_form_text.specs.FormText.{slacks_of, full_relation, free_relation, relation, relations, full_bound, free_bound, bound, bounds, form_number, plain_limits, given_limits, limits, form_text};
+ghost use Rattle.ct_form_text.specs.FormText.{slacks_of, full_relation, free_relation, relation, relations, full_bound, free_bound, bound, bounds, form_number, given_limits, limits, form_text};
 ghost use Rattle.ct_form.specs.Made.{given_of};
 ghost use Rattle.ct_form_text.specs.Files.{draft_file, form_file, HasRoom, AreNumbers};
 
@@ -14,7 +14,7 @@ use ct_input::limits::INSTANCE_FILE_LIMIT;
 use ct_input::{Fault, InputStop, Reader, costs_in, numbers, refused};
 use ct_point::Seq;
 use ct_vectors::limits::{COLUMN_LIMIT, ENTRY_LIMIT, RIGHT_LIMIT, ROW_LIMIT};
-use std::alloc::{AllocError, Global};
+use std::alloc::Global;
 
 fn slacks(relation: Relation) -> usize
     ensures { result ≡ slacks_of relation }
@@ -160,16 +160,6 @@ fn given_limits(
     })
 }
 
-// Each row is equal to its right-hand side, and no column has a bound.
-fn plain_limits(alloc: Global, rows: usize, columns: usize) -> Result<Limits, AllocError>
-    ensures { IfOk result (λ l. l ≡ plain_limits rows columns) }
-{
-    Ok(Limits {
-        relations: Seq::from_vec(vec![in alloc; Relation::Eq; rows]?),
-        bounds: Seq::from_vec(vec![in alloc; None; columns]?),
-    })
-}
-
 fn limits(
     alloc: Global,
     reader: &mut Reader,
@@ -185,7 +175,7 @@ fn limits(
     if limited {
         return given_limits(alloc, reader, rows, columns);
     }
-    let limits = plain_limits(alloc, rows, columns)?;
+    let limits = Limits::plain(alloc, rows, columns)?;
     Ok(limits)
 }
 

@@ -1,5 +1,5 @@
 -- How far the moves of a completion from its beginning come, and the greatest grade of phases.
-use Rattle.std.proofs.Common.{◌≡◌, ℕ, ◌+◌, ◌<◌, max, Some, List, length, get_or, take, map, sym, ap, ◌∙◌}
+use Rattle.std.proofs.Common.{◌≡◌, ℕ, ◌+◌, ◌<◌, max, true, Some, List, length, get_or, take, map, sym, ap, ◌∙◌}
 use Rattle.std.specs.Arc.{arc_value}
 use Rattle.std.proofs.lemmas.List.{map_push}
 use Rattle.ct_instance.specs.Instance.{Problem}
@@ -16,7 +16,7 @@ use Rattle.ct_input.specs.declared.script.Phase.{Phase}
 use Rattle.ct_legal.specs.Cases.{Case}
 use Rattle.ct_legal.specs.Scripts.{phase_with_solves, greatest, grade_after}
 use Rattle.ct_answer.specs.declared.options.Options.{Options}
-use Rattle.ct_answer.specs.Told.{case_at, sums_in}
+use Rattle.ct_answer.specs.Told.{case_at, all_worked_for}
 use Rattle.ct_answer.specs.Extents.{grade_upto, IsExtent}
 use Rattle.ct_answer.proofs.Pairing.{one_more}
 use Rattle.ct_answer.proofs.Completed.{opened, first_completed}
@@ -50,7 +50,7 @@ extent_marked i limit g m moves level mark count is = record {
 
 -- one phase more
 pub grade_more : (p : Place) (o : Options) (phases : List Phase) (k grade next : ℕ) (phase : Phase) → k < length phases → phase ≡ get_or phases k phase →
-    grade ≡ grade_upto (case_at p o) 0 (map phase_with_solves (take k phases)) → next ≡ max grade (max phase.target (greatest (sums_in phase.sessions))) →
+    grade ≡ grade_upto (case_at p o) 0 (map phase_with_solves (take k phases)) → next ≡ max grade (max phase.target (greatest (all_worked_for true phase.sessions))) →
     next ≡ grade_upto (case_at p o) 0 (map phase_with_solves (take (k + 1) phases))
 grade_more p o phases k grade next phase inside is so_far next_is =
     let c : Case = case_at p o in

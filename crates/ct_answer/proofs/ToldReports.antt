@@ -1,5 +1,5 @@
 -- What is told with each request taken as a solve is a legal report.
-use Rattle.std.proofs.Common.{ℕ, ◌+◌, ◌-◌, ◌*◌, ◌<◌, ◌≤◌, ◌≡◌, max, List, [], ◌∷◌, ◌++◌, length, get_or, take, map, All, refl, sym, ap, ap₂, subst, ◌∙◌, arith}
+use Rattle.std.proofs.Common.{ℕ, ◌+◌, ◌-◌, ◌*◌, ◌<◌, ◌≤◌, ◌≡◌, max, List, [], ◌∷◌, ◌++◌, length, get_or, take, map, All, true, refl, sym, ap, ap₂, subst, ◌∙◌, arith}
 use Rattle.std.specs.List.{flat_map}
 use Rattle.std.proofs.lemmas.List.{map_push}
 use Rattle.ct_vectors.specs.declared.limits.TheConstants.{ROW_LIMIT, RIGHT_LIMIT, GRADE_LIMIT}
@@ -23,7 +23,7 @@ use Rattle.ct_legal.specs.Scripts.{as_solve, phase_with_solves, solved_sum, grea
 use Rattle.ct_legal.specs.Legal.{low_after, AreLegalLines, AreLegalSessions, IsLevelShown, AreLegalPhases}
 use Rattle.ct_answer.specs.declared.options.Options.{Options}
 use Rattle.ct_answer.specs.Extents.{grade_upto}
-use Rattle.ct_answer.specs.Told.{case_at, AreToldLines, AreToldSessions, IsToldPhase, sums_of, sums_in}
+use Rattle.ct_answer.specs.Told.{case_at, AreToldLines, AreToldSessions, IsToldPhase, worked_for, all_worked_for}
 use Rattle.ct_answer.proofs.Pairing.{one_more}
 
 -- the sum of a right-hand side of m numbers
@@ -65,18 +65,18 @@ legal_sessions p o floor (requests ∷ sessions) (lines ∷ told) each = (legal_
 
 -- ---- grades
 
-solved_sums : (p : Place) (o : Options) (requests : List Request) → map (solved_sum (case_at p o)) (map as_solve requests) ≡ sums_of requests
+solved_sums : (p : Place) (o : Options) (requests : List Request) → map (solved_sum (case_at p o)) (map as_solve requests) ≡ map (worked_for true) requests
 solved_sums p o [] = refl
 solved_sums p o (Ask b ∷ requests) = ap (λ ns. total b ∷ ns) (solved_sums p o requests)
 solved_sums p o (Solve b ∷ requests) = ap (λ ns. total b ∷ ns) (solved_sums p o requests)
 
 solved_in : (p : Place) (o : Options) (sessions : List (List Request)) →
-    flat_map (λ requests. map (solved_sum (case_at p o)) requests) (map (map as_solve) sessions) ≡ sums_in sessions
+    flat_map (λ requests. map (solved_sum (case_at p o)) requests) (map (map as_solve) sessions) ≡ all_worked_for true sessions
 solved_in p o [] = refl
 solved_in p o (requests ∷ sessions) = ap₂ (λ ns ms. ns ++ ms) (solved_sums p o requests) (solved_in p o sessions)
 
 pub grade_told : (p : Place) (o : Options) (grade : ℕ) (phase : Phase) →
-    grade_after (case_at p o) grade (phase_with_solves phase) ≡ max grade (max phase.target (greatest (sums_in phase.sessions)))
+    grade_after (case_at p o) grade (phase_with_solves phase) ≡ max grade (max phase.target (greatest (all_worked_for true phase.sessions)))
 grade_told p o grade phase = ap (λ ns. max grade (max phase.target (greatest ns))) (solved_in p o phase.sessions)
 
 -- ---- phases
@@ -102,7 +102,7 @@ pub record AreToldUpto (p : Place) (o : Options) (phases : List Phase) (k grade 
 
 pub told_more : (p : Place) (o : Options) (phases : List Phase) (k grade next : ℕ) (reports : List PhaseReport) (phase : Phase) (report : PhaseReport) →
     k < length phases → phase ≡ get_or phases k phase → AreToldUpto p o phases k grade reports →
-    next ≡ max grade (max phase.target (greatest (sums_in phase.sessions))) → IsToldPhase p o next phase report →
+    next ≡ max grade (max phase.target (greatest (all_worked_for true phase.sessions))) → IsToldPhase p o next phase report →
     AreToldUpto p o phases (k + 1) next (reports ++ report ∷ [])
 told_more p o phases k grade next reports phase report inside is so_far next_is told =
     let c : Case = case_at p o in

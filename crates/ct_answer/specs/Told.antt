@@ -1,5 +1,5 @@
 -- What is told when each request is taken as a solve, without the floors that asks would need.
-use Rattle.std.specs.Prelude.{ℕ, Bool, List, [], ◌∷◌, map}
+use Rattle.std.specs.Prelude.{ℕ, Bool, cond, List, [], ◌∷◌, map}
 use Rattle.std.specs.List.{flat_map}
 use Rattle.ct_vectors.specs.Vectors.{total}
 use Rattle.ct_instance.specs.Answer.{answer_of}
@@ -7,6 +7,7 @@ use Rattle.ct_version.specs.Desks.{Place}
 use Rattle.ct_session.specs.declared.lines.Line.{Line}
 use Rattle.ct_session.specs.Lines.{IsSolveLine}
 use Rattle.ct_input.specs.declared.script.Request.{Request}
+use Rattle.ct_input.specs.declared.script.Request.TheVariants.{Ask, Solve}
 use Rattle.ct_input.specs.declared.script.Phase.{Phase}
 use Rattle.ct_input.specs.Script.{right_of}
 use Rattle.ct_report.specs.declared.reports.PhaseReport.{PhaseReport}
@@ -38,11 +39,13 @@ AreToldSessions p walks sessions told = AreEach (AreToldLines p walks) sessions 
 
 -- ---- grades
 
-abbrev pub sums_of : List Request → List ℕ
-sums_of requests = map (λ request. total (right_of request)) requests
+-- the grade that a request works for: the sum of a solve, and of an ask where asks are taken as solves
+abbrev pub worked_for : Bool → Request → ℕ
+worked_for asks (Solve b) = total b
+worked_for asks (Ask b) = cond asks (total b) 0
 
-abbrev pub sums_in : List (List Request) → List ℕ
-sums_in sessions = flat_map sums_of sessions
+abbrev pub all_worked_for : Bool → List (List Request) → List ℕ
+all_worked_for asks sessions = flat_map (λ requests. map (worked_for asks) requests) sessions
 
 -- ---- phases
 

@@ -10,7 +10,7 @@ ghost use Rattle.ct_legal.specs.Legal.{IsLevelShown, AreLegalPhases, IsLegalAnsw
 ghost use Rattle.std.specs.Prelude.{map};
 ghost use Rattle.ct_answer.specs.Told.{case_at, AreToldLines, AreToldSessions, IsToldPhase};
 
-use crate::grades::{grade_of, raised};
+use crate::grades::{grade_of, greatest_sum, raised};
 use crate::options::Options;
 use crate::solver::Solver;
 use ct_input::{Phase, Request, Script};
@@ -108,7 +108,7 @@ pub fn phases_of(
     let mut told = Vec::new(alloc);
     let mut grade = 0;
     for phase in phases {
-        grade = raised(grade, rows, phase);
+        grade = raised(grade, rows, phase, true);
         told.push(phase_of(alloc, solver, phase, options, grade)?)?;
     }
     Ok(Seq::from_vec(told))
@@ -129,8 +129,13 @@ pub fn answer(
     requires script { IsScript (arc_value inst).rows script.now }
     ensures { IfOk result (IsLegalAnswered (plain_case (arc_value inst) options.limit options.walks options.levels) script.now) }
 {
-    let top = grade_of(inst.rows(), script.phases.as_slice());
+    let phases = script.phases.as_slice();
+    let top = if options.levels {
+        grade_of(inst.rows(), phases)
+    } else {
+        greatest_sum(inst.rows(), phases)
+    };
     let mut solver = Solver::open(alloc, inst, options.limit, top)?;
-    let phases = phases_of(alloc, &mut solver, script.phases.as_slice(), options)?;
+    let phases = phases_of(alloc, &mut solver, phases, options)?;
     Ok(Report { phases })
 }

@@ -15,4 +15,5 @@ mod solver;
 pub use answering::answer;
 pub use counting::answer_counted;
 pub use extent::Extent;
+pub use grades::raised;
 pub use options::Options;

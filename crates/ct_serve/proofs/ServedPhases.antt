@@ -1,5 +1,5 @@
 -- What is served phase by phase is a legal report.
-use Rattle.std.proofs.Common.{ℕ, ◌+◌, ◌<◌, ◌≤◌, ◌≡◌, max, List, [], ◌∷◌, ◌++◌, length, get_or, take, All, sym, ap, subst, ◌∙◌, refl, arith}
+use Rattle.std.proofs.Common.{ℕ, ◌+◌, ◌<◌, ◌≤◌, ◌≡◌, max, false, List, [], ◌∷◌, ◌++◌, length, get_or, take, All, sym, ap, subst, ◌∙◌, refl, arith}
 use Rattle.std.proofs.lemmas.List.Elements.{All-push, All-weaker}
 use Rattle.ct_instance.specs.Instance.{IsInstance}
 use Rattle.ct_instance.specs.Versions.{Level, upto, everything, Covers, level_of}
@@ -15,11 +15,11 @@ use Rattle.ct_legal.specs.Scripts.{greatest, grade_after}
 use Rattle.ct_legal.specs.Legal.{AreLegalSessions, IsLevelShown, AreLegalPhases}
 use Rattle.ct_legal.proofs.Sessions.{shown_is_legal}
 use Rattle.ct_answer.specs.declared.options.Options.{Options}
-use Rattle.ct_answer.specs.Told.{case_at, AreEach}
+use Rattle.ct_answer.specs.Told.{case_at, all_worked_for, AreEach}
 use Rattle.ct_answer.proofs.Pairing.{one_more}
 use Rattle.ct_answer.specs.Extents.{grade_upto}
 use Rattle.ct_answer.proofs.ToldReports.{grade_pushed, phases_pushed}
-use Rattle.ct_serve.specs.Served.{IsTold, all_worked_for}
+use Rattle.ct_serve.specs.Served.{IsTold}
 use Rattle.ct_serve.proofs.WorkedFor.{grade_worked}
 
 covers_zero : (l : Level) → Covers l 0
@@ -44,7 +44,7 @@ pub record AreServedUpto (p : Place) (o : Options) (phases : List Phase) (k grad
 
 pub served_more : (p : Place) → IsInstance p.instance → (o : Options) (phases : List Phase) (k grade next from : ℕ) (reports more : List PhaseReport) (phase : Phase) (report : PhaseReport) →
     k < length phases → phase ≡ get_or phases k phase → AreServedUpto p o phases k grade reports →
-    next ≡ max grade (max phase.target (greatest (all_worked_for phase.sessions))) →
+    next ≡ max grade (max phase.target (greatest (all_worked_for false phase.sessions))) →
     HasReached p grade from → AreEach (IsTold p o.walks from) phase.sessions report.sessions →
     IsLevelShown o.levels (reach_of p.instance p.limit next) report.level → more ≡ reports ++ report ∷ [] →
     AreServedUpto p o phases (k + 1) next more

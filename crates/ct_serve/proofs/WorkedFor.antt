@@ -1,5 +1,5 @@
 -- The grades that requests work for.
-use Rattle.std.proofs.Common.{ℕ, ◌≡◌, ◌++◌, max, List, [], ◌∷◌, map, refl, ap, ap₂}
+use Rattle.std.proofs.Common.{ℕ, ◌≡◌, ◌++◌, max, false, List, [], ◌∷◌, map, refl, ap, ap₂}
 use Rattle.std.specs.List.{flat_map}
 use Rattle.ct_vectors.specs.Vectors.{total}
 use Rattle.ct_input.specs.declared.script.Request.{Request}
@@ -8,19 +8,18 @@ use Rattle.ct_input.specs.declared.script.Phase.{Phase}
 use Rattle.ct_version.specs.Desks.{Place}
 use Rattle.ct_legal.specs.Scripts.{solved_sum, greatest, grade_after}
 use Rattle.ct_answer.specs.declared.options.Options.{Options}
-use Rattle.ct_answer.specs.Told.{case_at}
-use Rattle.ct_serve.specs.Served.{worked_for, all_worked_for}
+use Rattle.ct_answer.specs.Told.{case_at, worked_for, all_worked_for}
 
-solved_sums : (p : Place) (o : Options) (requests : List Request) → map (solved_sum (case_at p o)) requests ≡ map worked_for requests
+solved_sums : (p : Place) (o : Options) (requests : List Request) → map (solved_sum (case_at p o)) requests ≡ map (worked_for false) requests
 solved_sums p o [] = refl
 solved_sums p o (Ask b ∷ requests) = ap (λ ns. 0 ∷ ns) (solved_sums p o requests)
 solved_sums p o (Solve b ∷ requests) = ap (λ ns. total b ∷ ns) (solved_sums p o requests)
 
 solved_in : (p : Place) (o : Options) (sessions : List (List Request)) →
-    flat_map (λ requests. map (solved_sum (case_at p o)) requests) sessions ≡ all_worked_for sessions
+    flat_map (λ requests. map (solved_sum (case_at p o)) requests) sessions ≡ all_worked_for false sessions
 solved_in p o [] = refl
 solved_in p o (requests ∷ sessions) = ap₂ (λ ns ms. ns ++ ms) (solved_sums p o requests) (solved_in p o sessions)
 
 pub grade_worked : (p : Place) (o : Options) (grade : ℕ) (phase : Phase) →
-    grade_after (case_at p o) grade phase ≡ max grade (max phase.target (greatest (all_worked_for phase.sessions)))
+    grade_after (case_at p o) grade phase ≡ max grade (max phase.target (greatest (all_worked_for false phase.sessions)))
 grade_worked p o grade phase = ap (λ ns. max grade (max phase.target (greatest ns))) (solved_in p o phase.sessions)

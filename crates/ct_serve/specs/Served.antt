@@ -1,12 +1,10 @@
 -- What the parts of a phase and the main part come to.
-use Rattle.std.specs.Prelude.{ℕ, ◌+◌, ◌-◌, ◌≤◌, ◌<◌, ◌≡◌, Bool, List, [], ◌∷◌, map, length, get_or, All, IfOk}
+use Rattle.std.specs.Prelude.{ℕ, ◌+◌, ◌-◌, ◌≤◌, ◌<◌, ◌≡◌, Bool, List, [], ◌∷◌, length, get_or, All, IfOk}
 use Rattle.std.specs.List.{flat_map}
 use Rattle.std.specs.Arc.{arc_value}
-use Rattle.ct_vectors.specs.Vectors.{total}
 use Rattle.ct_vectors.specs.declared.limits.TheConstants.{GRADE_LIMIT}
 use Rattle.ct_instance.specs.Reach.{reach_of}
 use Rattle.ct_input.specs.declared.script.Request.{Request}
-use Rattle.ct_input.specs.declared.script.Request.TheVariants.{Ask, Solve}
 use Rattle.ct_input.specs.declared.script.Phase.{Phase}
 use Rattle.ct_input.specs.Script.{IsRequest, IsPhase}
 use Rattle.ct_version.specs.Editions.{level_seen}
@@ -32,14 +30,6 @@ pub record IsHeld (p : Place) (g : ℕ) (h : Held) : Type 0 where
   pub version : IsOfPlace p (arc_value h.version)
   pub reached : HasReached p g (arc_value h.version).number
   pub level : level_seen h.level ≡ reach_of p.instance p.limit g
-
--- the grade that a request works for: an ask works for none
-abbrev pub worked_for : Request → ℕ
-worked_for (Solve b) = total b
-worked_for (Ask b) = 0
-
-abbrev pub all_worked_for : List (List Request) → List ℕ
-all_worked_for sessions = flat_map (λ requests. map worked_for requests) sessions
 
 -- ---- parts
 

@@ -7,7 +7,6 @@
 
 mod collecting;
 mod dealing;
-mod grades;
 mod parts;
 mod phases;
 mod reaching;

@@ -10,11 +10,10 @@ ghost use Rattle.ct_legal.specs.Cases.{plain_case};
 ghost use Rattle.ct_legal.specs.Legal.{IsLevelShown, AreLegalPhases, IsLegalServed};
 ghost use Rattle.ct_answer.specs.Told.{case_at};
 
-use crate::grades::raised;
 use crate::phases::run_phase;
 use crate::reaching::reach;
 use crate::shared::Shared;
-use ct_answer::Options;
+use ct_answer::{Options, raised};
 use ct_host::{Host, HostPass};
 use ct_input::{Phase, Script};
 use ct_instance::Instance;
@@ -68,7 +67,7 @@ fn phases_of<R: Threads + Wait + Sync, G: Gate + Sync>(
     for phase in phases {
         let (back, sessions) = run_phase(shared, passes, &held.version, phase, workers)?;
         passes = back;
-        grade = raised(grade, rows, phase);
+        grade = raised(grade, rows, phase, false);
         held = reach(shared, &mut main, grade)?;
         let level = shown(held.level, shared.options.levels);
         told.push(PhaseReport { sessions, level })?;

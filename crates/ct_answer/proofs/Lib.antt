@@ -2,3 +2,4 @@ pub mod Pairing
 pub mod Completed
 pub mod Extents
 pub mod ToldReports
+pub mod Beforehand

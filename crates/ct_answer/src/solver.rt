@@ -1,17 +1,23 @@
 //! A completion that goes as far as requests need.
-ghost use Rattle.std.specs.Prelude.{◌≡◌, ◌≤◌, All, IfOk, IfErr, Some, None, cond};
+ghost use Rattle.std.specs.Prelude.{◌≡◌, ◌≤◌, ℕ, List, All, IfOk, IfErr, Some, None, cond};
 ghost use Rattle.ct_vectors.specs.declared.limits.TheConstants.{ROW_LIMIT, RIGHT_LIMIT, GRADE_LIMIT, MOVE_LIMIT};
 ghost use Rattle.ct_vectors.specs.Vectors.{total};
 ghost use Rattle.ct_instance.specs.Instance.{IsRight};
 ghost use Rattle.ct_instance.specs.Answer.{answer_of};
 ghost use Rattle.ct_instance.specs.Versions.{Covers, level_of};
 ghost use Rattle.ct_instance.specs.Reach.{reach_of};
-ghost use Rattle.ct_version.specs.Editions.{level_seen};
+ghost use Rattle.ct_input.specs.Script.{IsPhase};
+ghost use Rattle.ct_version.specs.Editions.{Edition, level_seen};
+ghost use Rattle.ct_version.specs.Answers.{IsAnswered};
 ghost use Rattle.ct_session.specs.Lines.{IsAnsweredLine, IsSolveLine};
+ghost use Rattle.ct_version.specs.Desks.{IsHelp, IsStop};
 ghost use Rattle.ct_solo.specs.Seen.{place_of};
 ghost use Rattle.ct_answer.specs.Extents.{IsExtent};
 
 use crate::extent::Extent;
+use crate::gathering::covered_in;
+use crate::prepared::{Prepared, prepare, taken_for};
+use ct_input::Phase;
 use ct_instance::Instance;
 use ct_order::sum;
 use ct_point::Seq;
@@ -22,25 +28,33 @@ use ct_walk::Walk;
 use std::alloc::{AllocError, Global};
 use std::marker::Model;
 use std::sync::Arc;
+use std::thread::Threads;
 
 /// A completion for one caller, seen as its instance and limit, which never change.
+///
+/// It may have answers that were found beforehand, those to the next requests last.
 #[derive(Drop)]
 pub struct Solver {
     solo: Solo,
+    prepared: Vec<Prepared>,
 }
 
 impl Model for Solver {
+    ghost use Rattle.std.specs.Prelude.{All};
     ghost use Rattle.ct_version.specs.Desks.{Place};
     ghost use Rattle.ct_solo.specs.Seen.{place_of};
+    ghost use Rattle.ct_answer.specs.Prepared.{IsPrepared};
 
     ghost Value = { Place };
 
     ghost view = { λ s. place_of s.solo };
+
+    ghost invariant = { λ s. All (IsPrepared (place_of s.solo)) s.prepared.items };
 }
 
 impl Solver {
     ghost use Rattle.std.specs.Arc.{arc_value};
-    ghost use Rattle.ct_version.specs.Desks.{IsHelp, IsStop};
+    ghost use Rattle.ct_version.specs.Desks.{IsOfPlace};
 
     /// A solver with no moves yet, linear in the columns. Up to the greatest grade `top` each request goes on from where
     /// the one before it came to; one past it starts anew.
@@ -56,7 +70,10 @@ impl Solver {
         ensures { IfOk result (λ s. s ≡ record { instance = arc_value inst; limit = limit }) }
     {
         let solo = Solo::open(alloc, inst, limit, top)?;
-        Ok(Solver { solo })
+        Ok(Solver {
+            solo,
+            prepared: Vec::new(alloc),
+        })
     }
 
     /// A solver that has its moves for a grade, or up to the limit on their number, with how far they come.
@@ -77,31 +94,61 @@ impl Solver {
             Ok(helped) => {
                 let moves = helped.version.moves().len();
                 let level = helped.level;
-                Ok((Solver { solo }, Extent { moves, level }))
+                let prepared = Vec::new(alloc);
+                Ok((Solver { solo, prepared }, Extent { moves, level }))
             }
             Err(Stop::Full(mark)) => {
                 let moves = mark.version.moves().len();
                 let level = Finished::below(Some(mark.grade));
-                Ok((Solver { solo }, Extent { moves, level }))
+                let prepared = Vec::new(alloc);
+                Ok((Solver { solo, prepared }, Extent { moves, level }))
             }
             Err(Stop::Memory) => Err(AllocError),
         }
     }
 
-    // Help up to the grade. Where that is past the greatest grade so far, the completion starts anew.
+    // Help up to the grade.
     fn help(&mut self, alloc: Global, grade: u64) -> Result<Helped, Stop>
         requires { grade ≤ GRADE_LIMIT }
         ensures place { self.new ≡ self.old }
         ensures ok { IfOk result (IsHelp self.old grade) }
         ensures stop { IfErr result (IsStop self.old grade) }
     {
-        if self.solo.top() < grade {
-            match anew(alloc, &self.solo, grade) {
-                Ok(solo) => self.solo = solo,
-                Err(_) => return Err(Stop::Memory),
-            }
+        help_from(alloc, &mut self.solo, grade)
+    }
+
+    /// Completes up to the grade, or up to the limit on the number of moves, and answers the requests of these phases whose
+    /// sums that covers, in several threads.
+    pub fn prepare<R: Threads + Sync>(
+        &mut self,
+        rt: &R,
+        alloc: Global,
+        grade: u64,
+        phases: &[Phase],
+    ) -> Result<(), AllocError>
+        requires grade { grade ≤ GRADE_LIMIT }
+        requires phases { All (IsPhase self.old.instance.rows) phases.now }
+        ensures { self.new ≡ self.old }
+    {
+        let version = self.reached(alloc, grade)?;
+        // Called for what it ensures: there is such a version.
+        let _number = version.number();
+        let rights = covered_in(alloc, &version, phases)?;
+        self.prepared = prepare(rt, alloc, &version, rights)?;
+        Ok(())
+    }
+
+    // The version to which a completion for the grade comes.
+    fn reached(&mut self, alloc: Global, grade: u64) -> Result<Arc<Version>, AllocError>
+        requires { grade ≤ GRADE_LIMIT }
+        ensures place { self.new ≡ self.old }
+        ensures version { IfOk result (λ v. IsOfPlace self.old (arc_value v)) }
+    {
+        match self.help(alloc, grade) {
+            Ok(helped) => Ok(helped.version),
+            Err(Stop::Full(mark)) => Ok(mark.version),
+            Err(Stop::Memory) => Err(AllocError),
         }
-        self.solo.complete(alloc, grade)
     }
 
     /// The number of rows of the instance.
@@ -112,8 +159,8 @@ impl Solver {
         self.solo.version().moves().instance().rows()
     }
 
-    /// The line of a solve of b. It completes up to the sum of b, where the version doesn't cover that already, and walks
-    /// once.
+    /// The line of a solve of b. Where the answer isn't the next that was found beforehand, it completes up to the sum of b,
+    /// if the version doesn't cover that already, and walks once.
     pub fn line(&mut self, alloc: Global, b: &[u64], walks: bool) -> Result<Line, AllocError>
         requires right { IsRight self.old.instance b.now }
         requires limit { All (λ x. x ≤ RIGHT_LIMIT) b.now }
@@ -122,6 +169,9 @@ impl Solver {
     {
         // Called for what it ensures: the rows of an instance are within their limit.
         let _rows = self.rows();
+        if let Some(found) = taken_for(&mut self.prepared, b) {
+            return Ok(line_of(found, walks));
+        }
         match self.help(alloc, sum(b)) {
             Ok(helped) => answered(alloc, &helped.version, b, walks),
             Err(Stop::Full(mark)) => Ok(Line::Full { grade: mark.grade }),
@@ -144,6 +194,22 @@ impl Solver {
     }
 }
 
+// Help up to the grade. Where that is past the greatest grade so far, the completion starts anew.
+fn help_from(alloc: Global, solo: &mut Solo, grade: u64) -> Result<Helped, Stop>
+    requires { grade ≤ GRADE_LIMIT }
+    ensures place { place_of solo.new ≡ place_of solo.old }
+    ensures ok { IfOk result (IsHelp (place_of solo.old) grade) }
+    ensures stop { IfErr result (IsStop (place_of solo.old) grade) }
+{
+    if solo.top() < grade {
+        match anew(alloc, solo, grade) {
+            Ok(higher) => *solo = higher,
+            Err(_) => return Err(Stop::Memory),
+        }
+    }
+    solo.complete(alloc, grade)
+}
+
 // A completion of the same place from the beginning, up to another greatest grade.
 fn anew(alloc: Global, solo: &Solo, top: u64) -> Result<Solo, AllocError>
     requires { top ≤ GRADE_LIMIT }
@@ -164,10 +230,18 @@ fn answered(alloc: Global, version: &Version, b: &[u64], walks: bool) -> Result<
     match version.answer(alloc, b) {
         Err(AskStop::Memory) => Err(AllocError),
         Err(AskStop::NotYet { finished: _ }) => unreachable!(),
-        Ok(Answered { answer, walk }) => Ok(Line::Answered {
-            answer,
-            walk: shown(walk, walks),
-        }),
+        Ok(found) => Ok(line_of(found, walks)),
+    }
+}
+
+// The line of an answer.
+fn line_of(found: Answered, walks: bool) -> Line
+    ensures { (v : Edition) (b : List ℕ) → IsAnswered v b found → IsAnsweredLine v.instance walks (answer_of v.instance b) b result }
+{
+    let Answered { answer, walk } = found;
+    Line::Answered {
+        answer,
+        walk: shown(walk, walks),
     }
 }
 

@@ -54,6 +54,14 @@ behind i at xs pairs l x c =
 equal_or_less : (t at : ℕ) → at ≤ t → (t ≡ at) ⊎ (at < t)
 equal_or_less t at h = ⊎_elim (λ l. inr l) (λ l. inl (omega arith)) (cases_lt at t)
 
+-- what stands before a point that is below s, and the point itself, are below s
+pub below_upto : (i : Problem) (xs : List (List ℕ)) (s : List ℕ) (at t : ℕ) (x : List ℕ) → AllPairs (IsBelow i) xs → at < length xs → x ≡ get_or xs at x → IsBelow i x s → t < at + 1 →
+    IsBelow i (get_or xs t []) s
+below_upto i xs s at t x pairs l is below before =
+    let here : IsBelow i (get_or xs at []) s = subst (λ y. IsBelow i y s) (is ∙ get_or_default xs at x [] l) below in
+    ⊎_elim (λ e. subst (λ n. IsBelow i (get_or xs n []) s) e here)
+    (λ less. below_chain i (get_or xs t []) (get_or xs at []) s (pairs t at [] less l) here) (equal_or_less at t (omega arith))
+
 -- s goes in before the first that isn't below it
 pub put_at : (i : Problem) (k at : ℕ) (xs : List (List ℕ)) (s : List ℕ) → All (IsPoint i) xs → IsPoint i s → AllPairs (IsBelow i) xs → length xs ≤ k → at ≤ length xs →
     ((t : ℕ) → t < at → IsBelow i (get_or xs t []) s) → (at < length xs → IsBelow i (get_or xs at []) s → ⊥) → (at ≡ k → ⊥) → ((at < length xs) × (get_or xs at [] ≡ s) → ⊥) →

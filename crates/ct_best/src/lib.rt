@@ -15,6 +15,3 @@ mod stops;
 pub use best_list::{BestList, best};
 pub use search::least_found;
 pub use stops::BestStop;
-
-#[cfg(test)]
-mod tests;

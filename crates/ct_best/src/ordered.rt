@@ -36,22 +36,28 @@ pub fn put_in(
     Ok(())
 }
 
-// How many points of the list are below s.
+// How many points of the list are below s, by halving.
 fn place_of(inst: &Instance, found: &[Point], s: &Point) -> usize
     requires points { All (IsPoint inst.now) found.now }
     requires grades { All (λ p. grade_of inst.now.columns p ≤ GRADE_LIMIT) found.now }
+    requires ordered { AllPairs (IsBelow inst.now) found.now }
     requires point { IsPoint inst.now s.now }
     requires grade { grade_of inst.now.columns s.now ≤ GRADE_LIMIT }
     ensures within { result ≤ length found.now }
     ensures before { (k : ℕ) → k < result → IsBelow inst.now (get_or found.now k []) s.now }
     ensures not_below { result < length found.now → IsBelow inst.now (get_or found.now result []) s.now → ⊥ }
 {
-    for k in 0..found.len() {
-        if !is_below(inst, &found[k], s) {
-            return k;
+    let mut low = 0;
+    let mut high = found.len();
+    while low < high {
+        let middle = low + (high - low) / 2;
+        if is_below(inst, &found[middle], s) {
+            low = middle + 1;
+        } else {
+            high = middle;
         }
     }
-    found.len()
+    low
 }
 
 // Whether s stands at this place of the list.

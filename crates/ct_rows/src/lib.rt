@@ -3,6 +3,8 @@
 #![tactic(auto)]
 
 #[cfg(test)]
+mod best_tests;
+#[cfg(test)]
 mod book_desk;
 #[cfg(test)]
 mod index_tests;

@@ -1,9 +1,8 @@
 -- What a call of the book behind the lock leaves that hands out or takes in several jobs.
-use Rattle.std.proofs.Common.{◌≡◌, ℕ, ◌+◌, ◌<◌, Result, Ok, Err, List, [], ◌∷◌, map, length, slice_index, sym, ap, subst, ◌∙◌, refl, arith}
+use Rattle.std.proofs.Common.{◌≡◌, ℕ, ◌+◌, ◌<◌, Result, Ok, Err, List, [], ◌∷◌, map, length, slice_index, ap, ◌∙◌, refl, arith}
 use Rattle.std.specs.Prelude.{IfOk, OnErr}
 use Rattle.std.specs.declared.alloc.AllocError.{AllocError}
 use Rattle.count_lock.specs.Pairs.{GrowsAt, Agree, first_number, first_count}
-use Rattle.ct_instance.specs.Instance.{Problem}
 use Rattle.ct_version.specs.Editions.{Edition}
 use Rattle.ct_version.specs.Desks.{IsOfPlace}
 use Rattle.ct_book.specs.declared.outcomes.Step.{Step}

@@ -1,7 +1,7 @@
 -- The counts of a book, by the numbers of its passes.
-use Rattle.std.proofs.Common.{◌≡◌, ℕ, ◌<◌, [], ◌∷◌, length, zero, suc, get_or, set, slice_index, All, sym, ap, ◌∙◌, arith, ⊎_elim, length-set, get_or-set_same, get_or-set_other}
-use Rattle.std.proofs.lemmas.Bool.{cases_eq, cases_lt}
-use Rattle.std.proofs.lemmas.List.{get_or-map, length-map, ext_get_or, get_or_push, get_or_append_left, get_or_default}
+use Rattle.std.proofs.Common.{◌≡◌, ℕ, ◌<◌, [], length, get_or, set, slice_index, All, sym, ap, ◌∙◌, arith, ⊎_elim, length-set, get_or-set_same, get_or-set_other}
+use Rattle.std.proofs.lemmas.Bool.{cases_eq}
+use Rattle.std.proofs.lemmas.List.{get_or-map, length-map, ext_get_or, get_or_default}
 use Rattle.ct_instance.specs.Made.{indices}
 use Rattle.ct_instance.proofs.Entries.{length-indices, get_or-indices}
 use Rattle.ct_completion.specs.Journal.{entries_of}

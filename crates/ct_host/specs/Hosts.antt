@@ -4,6 +4,8 @@ use Rattle.atomic_table.specs.Seated.{TableId}
 use Rattle.turn_cell.specs.Sight.{CellPlace, CellSight}
 use Rattle.count_lock.specs.Pairs.{first_number, first_count}
 use Rattle.count_lock.specs.Sight.{LockPlace, LockSight}
+use Rattle.ct_completion.specs.declared.journals.Entry.{Entry}
+use Rattle.ct_completion.specs.Journal.{entries_of}
 use Rattle.ct_book.specs.Books.{BookSeen}
 use Rattle.ct_book.specs.Benches.{BenchPlace, desk_place}
 use Rattle.ct_host.specs.Values.{PlacedVersion, bench_place}
@@ -64,9 +66,15 @@ pub record IsHost (cell : CellPlace PlacedVersion) (lock : LockPlace BookSeen) (
 
 -- ---- passes of the opening
 
--- the pass with this number, which has made no step and seen version 0
+-- the pass with this number of a host that begins with a version and a journal: its steps are the entries of the journal
+-- that are its own, and it has seen that version
+abbrev pub opened_pass : HostKey → ℕ → List Entry → ℕ → PassSeen
+opened_pass key version journal number =
+    record { key = key; number = number; steps = entries_of number journal; seen = version; words = []; splits = number + 1; shown = [] }
+
+-- where it begins with version 0 and no entries, the pass has made no step
 abbrev pub fresh_pass : HostKey → ℕ → PassSeen
-fresh_pass key number = record { key = key; number = number; steps = 0; seen = 0; words = []; splits = number + 1; shown = [] }
+fresh_pass key number = opened_pass key 0 [] number
 
 -- ---- what calls leave
 

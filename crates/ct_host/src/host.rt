@@ -12,6 +12,7 @@ use count_lock::CountLock;
 use ct_book::Book;
 use ct_instance::Instance;
 use ct_version::{Helped, Pin, Stop};
+use ct_walk::Moves;
 use std::alloc::{AllocError, Global};
 use std::marker::Model;
 use std::sync::{Arc, Wait};
@@ -36,14 +37,18 @@ impl Model for Host {
 }
 
 impl Host {
-    ghost use Rattle.std.specs.Prelude.{◌≡◌, ◌≤◌, map, IfOk, IfErr};
+    ghost use Rattle.std.specs.Prelude.{◌≡◌, ◌≤◌, length, map, IfOk, IfErr};
     ghost use Rattle.std.specs.Arc.{arc_value};
     ghost use Rattle.ct_vectors.specs.declared.limits.TheConstants.{GRADE_LIMIT, MOVE_LIMIT, PASS_LIMIT};
     ghost use Rattle.ct_instance.specs.Made.{indices};
+    ghost use Rattle.ct_instance.specs.TestSet.{test_list};
+    ghost use Rattle.ct_instance.specs.Reach.{first_version_from};
+    ghost use Rattle.ct_completion.specs.OnePass.{journal_to};
     ghost use Rattle.ct_version.specs.Desks.{IsPin, IsHelp, IsStop};
     ghost use Rattle.ct_vectors.specs.Words.{latest};
     ghost use Rattle.ct_book.specs.Benches.{desk_place};
-    ghost use Rattle.ct_host.specs.Hosts.{IsOfHost, after_pin, fresh_pass};
+    ghost use Rattle.ct_host.specs.Hosts.{IsOfHost, after_pin, opened_pass, fresh_pass};
+    ghost use Rattle.ct_host.specs.Values.{bench_place};
     ghost use Rattle.ct_host.specs.Steps.{Helps, HasSeenHelp, HasSeenStop};
     ghost use Rattle.ct_host.specs.Closing.{AreAllPasses, IsClosed, IsJournalOf};
 
@@ -62,8 +67,53 @@ impl Host {
         ensures place { IfOk result (λ r. r.0.place ≡ record { instance = arc_value inst; limit = limit; passes = passes }) }
         ensures passes { IfOk result (λ r. r.1.items ≡ map (fresh_pass r.0.key) (indices passes)) }
     {
-        let made = Vec::with_capacity(alloc, passes as usize)?;
         let book = Book::open(alloc, inst, limit, passes)?;
+        Host::of_book(alloc, book, limit, passes)
+    }
+
+    /// A host at the first version that covers this grade, whose test list the moves are, and its passes in the order of
+    /// their numbers. Its journal begins with what pass 0 alone writes which takes all jobs on the way there in job order:
+    /// so pass 0 counts those entries, and each pass has seen that version. It takes the memory of such a book and of what
+    /// is opened beside it.
+    pub fn open_at(
+        alloc: Global,
+        inst: Arc<Instance>,
+        limit: u32,
+        passes: u32,
+        moves: Moves,
+        grade: u64,
+    ) -> Result<(Host, Vec<HostPass>), AllocError>
+        requires some { 1 ≤ limit }
+        requires most { limit ≤ MOVE_LIMIT }
+        requires some_pass { 1 ≤ passes }
+        requires passes { passes ≤ PASS_LIMIT }
+        requires grade { grade ≤ GRADE_LIMIT }
+        requires instance { moves.instance ≡ arc_value inst }
+        requires list { moves.moves ≡ test_list (arc_value inst) grade }
+        requires within { length moves.moves ≤ limit }
+        ensures place { IfOk result (λ r. r.0.place ≡ record { instance = arc_value inst; limit = limit; passes = passes }) }
+        ensures passes { IfOk result (λ r. r.1.items ≡ map (opened_pass r.0.key (first_version_from (arc_value inst) grade) (journal_to (arc_value inst) (first_version_from (arc_value inst) grade))) (indices passes)) }
+    {
+        let book = Book::open_at(alloc, inst, limit, passes, moves, grade)?;
+        Host::of_book(alloc, book, limit, passes)
+    }
+
+    // A host of a book, with its limit and its passes, in the order of their numbers.
+    fn of_book(
+        alloc: Global,
+        book: Book,
+        limit: u32,
+        passes: u32,
+    ) -> Result<(Host, Vec<HostPass>), AllocError>
+        requires some_pass { 1 ≤ passes }
+        requires limit { book.limit ≡ limit }
+        requires passes { book.passes ≡ passes }
+        ensures place { IfOk result (λ r. r.0.place ≡ bench_place book) }
+        ensures passes { IfOk result (λ r. r.1.items ≡ map (opened_pass r.0.key book.state.number book.journal) (indices passes)) }
+    {
+        // Called for what it ensures: the counts are small.
+        let _count = book.entries(0);
+        let made = Vec::with_capacity(alloc, passes as usize)?;
         let version = Arc::try_clone(book.version())?;
         let (cell, first) = TurnCell::open(alloc, Newest::new(version, limit))?;
         let locked = LockedBook::new(alloc, book)?;

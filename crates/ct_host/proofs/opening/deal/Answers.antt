@@ -11,7 +11,7 @@ use Rattle.ct_host.proofs.opening.deal.Goals as goal
 pub invariant_of-push_reserved : goal.invariant_of-push_reserved
 invariant_of-push_reserved c =
     let is = c.loop-lock_pass.invariant.rest ∙ ap (λ xs. c.loop-lock_pass.yielded ++ xs) c.in-Some.ensures.steps.0 in
-    let next = next_lock_pass c.args.lock.now c.loop-lock_pass.yielded (into_iter_items c.next.new.self) c.args.locks.items c.in-Some.lock_pass c.requires.journal c.requires.locks is in
+    let next = next_lock_pass c.args.lock.now c.loop-lock_pass.yielded (into_iter_items c.next.new.self) c.args.locks.items c.in-Some.lock_pass c.requires.locks is in
     (ap (λ (p : CellSight PlacedVersion). p.held) c.split.ensures.given, ap (λ (p : LockSight BookSeen). p.held) next, ap (λ (p : LockSight BookSeen). length p.pairs) next)
 
 pub push_reserved-requires : goal.push_reserved-requires
@@ -27,7 +27,7 @@ loop-lock_pass-preserved c =
     let given = c.split.ensures.given in
     record {
       dealing = dealing_more c.args.cell.now c.args.lock.now c.loop-lock_pass.first c.split.new.pass c.split.result c.loop-lock_pass.yielded (into_iter_items c.next.new.self) c.args.locks.items c.in-Some.lock_pass c.loop-lock_pass.made.items c.push_reserved.new.self.items
-          c.requires.journal c.requires.locks is c.loop-lock_pass.invariant.dealing c.split.ensures.kept (ap (λ (p : CellSight PlacedVersion). p.cell) given) (ap (λ (p : CellSight PlacedVersion). p.first) given) (ap (λ (p : CellSight PlacedVersion). p.seen) given)
+          c.requires.locks is c.loop-lock_pass.invariant.dealing c.split.ensures.kept (ap (λ (p : CellSight PlacedVersion). p.cell) given) (ap (λ (p : CellSight PlacedVersion). p.first) given) (ap (λ (p : CellSight PlacedVersion). p.seen) given)
           (ap (λ (p : CellSight PlacedVersion). p.words) given) (ap (λ (p : CellSight PlacedVersion). p.splits) given) c.push_reserved.ensures.items;
       rest = is ∙ sym (append_assoc c.loop-lock_pass.yielded (c.in-Some.lock_pass ∷ []) (into_iter_items c.next.new.self));
       room = omega (arith, c.loop-lock_pass.invariant.room, c.push_reserved.ensures.capacity);

@@ -1,0 +1,2 @@
+pub mod FormBest
+pub mod Laws

@@ -2,3 +2,4 @@ pub mod Tests
 pub mod Worked
 pub mod TestLists
 pub mod Ledgers
+pub mod Comparing

@@ -9,10 +9,14 @@ use Rattle.ct_instance.specs.TestSet.{Binomial, ComesBefore}
 use Rattle.ct_instance.specs.Walk.{first_dividing, IsNormal}
 use Rattle.ct_instance.specs.Jobs.{the_move, numbers_after}
 
+-- the head of no other move divides that of the move with the number k
+abbrev pub IsUndivided : List Binomial → ℕ → Type 0
+IsUndivided ms k = (l : ℕ) → 1 ≤ l → l ≤ length ms → (l ≡ k → ⊥) → Divides (the_move ms l).head (the_move ms k).head → ⊥
+
 -- the move with the number k: the head of no other move divides its head, no head divides its tail, and its head comes
 -- after that of the move before it
 pub record IsReducedAt (i : Problem) (ms : List Binomial) (k : ℕ) : Type 0 where
-  pub head : (l : ℕ) → 1 ≤ l → l ≤ length ms → (l ≡ k → ⊥) → Divides (the_move ms l).head (the_move ms k).head → ⊥
+  pub head : IsUndivided ms k
   pub tail : IsNormal ms (the_move ms k).tail
   pub order : 2 ≤ k → ComesBefore i (the_move ms (k - 1)).head (the_move ms k).head
 

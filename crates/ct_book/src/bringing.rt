@@ -1,14 +1,12 @@
 //! The way to a grade over the jobs of its whole test list, on which nothing is reduced.
-ghost use Rattle.std.specs.Prelude.{◌≡◌, ◌+◌, ◌-◌, ◌≤◌, ◌<◌, ℕ, [], ◌∷◌, ◌++◌, map, length, IfOk, OnOk};
+ghost use Rattle.std.specs.Prelude.{◌≡◌, ◌+◌, ◌≤◌, [], ◌∷◌, ◌++◌, map, length, IfOk, OnOk};
 ghost use Rattle.ct_vectors.specs.declared.limits.TheConstants.{GRADE_LIMIT};
 ghost use Rattle.ct_instance.specs.TestSet.{test_list};
-ghost use Rattle.ct_instance.specs.Versions.{upto};
 ghost use Rattle.ct_instance.specs.Reach.{first_version_from};
 ghost use Rattle.ct_jobs.specs.GradedJobs.{AreJobsOf};
 ghost use Rattle.ct_completion.specs.declared.journals.Act.TheVariants.{Stored, Published};
 ghost use Rattle.ct_completion.specs.Journal.{entries_of};
 ghost use Rattle.ct_completion.specs.OnePass.{entries_by};
-ghost use Rattle.ct_version.specs.Editions.{level_seen};
 ghost use Rattle.ct_book.specs.Bringing.{IsBrought};
 
 use crate::log::Log;
@@ -75,7 +73,7 @@ pub fn brought_to(
     while !finished.covers(grade) {
         number += 1;
         write_down(&mut log, &queue, number)?;
-        let next = opened_above(alloc, buckets, &none, behind(finished))?;
+        let next = opened_above(alloc, buckets, &none, finished.behind())?;
         finished = next.finished;
         queue = next.queue;
         levels.push(finished)?;
@@ -102,16 +100,4 @@ fn write_down(log: &mut Log, queue: &Queue, number: u64) -> Result<(), AllocErro
     }
     log.append(0, Act::Published(number));
     Ok(())
-}
-
-// The grade behind a level.
-fn behind(finished: Finished) -> u64
-    requires { (l : ℕ) × (level_seen finished ≡ upto l) × (l < GRADE_LIMIT) }
-    ensures level { level_seen finished ≡ upto (result - 1) }
-    ensures some { 1 ≤ result }
-{
-    match finished {
-        Finished::All => unreachable!(),
-        Finished::Upto(level) => level + 1,
-    }
 }

@@ -1,16 +1,15 @@
 //! The next version of a book whose jobs are all resolved.
-ghost use Rattle.std.specs.Prelude.{◌≡◌, ◌+◌, ◌≤◌, ◌<◌, ◌^◌, ◌++◌, [], ◌∷◌, ℕ, None, Some, suc, ◌-◌, length, map, All, AllPairs, Contains, ◌↔◌, IfOk, OnOk};
+ghost use Rattle.std.specs.Prelude.{◌≡◌, ◌+◌, ◌≤◌, ◌<◌, ◌++◌, [], ◌∷◌, ℕ, None, suc, length, map, All, AllPairs, Contains, ◌↔◌, IfOk, OnOk};
 ghost use Rattle.std.specs.Option.{unwrap_or};
 ghost use Rattle.std.specs.Arc.{arc_value};
 ghost use Rattle.ct_vectors.specs.declared.limits.TheConstants.{GRADE_LIMIT, MOVE_LIMIT};
 ghost use Rattle.ct_instance.specs.Versions.{upto, level_of, version_list};
 ghost use Rattle.ct_walk.specs.Moves.{IsSmallMove};
-ghost use Rattle.ct_jobs.specs.GradedJobs.{AreJobsOf, graded_pairs_from};
+ghost use Rattle.ct_jobs.specs.GradedJobs.{AreJobsOf};
 ghost use Rattle.ct_completion.specs.Machine.{opened_jobs};
 ghost use Rattle.ct_completion.specs.Remainders.{points_of, IsGroupMove};
 ghost use Rattle.ct_instance.specs.TestSet.{Binomial, ComesBefore};
 ghost use Rattle.ct_groups.specs.Groups.{points_seen, IsSmallPoint};
-ghost use Rattle.ct_version.specs.Editions.{IsEdition};
 ghost use Rattle.ct_book.specs.Queues.{slot_seen};
 ghost use Rattle.ct_book.specs.Insides.{fresh};
 ghost use Rattle.ct_book.specs.Openings.{left_in};
@@ -22,7 +21,7 @@ use ct_handing::shared;
 use ct_instance::Instance;
 use ct_jobs::{Addition, Buckets};
 use ct_point::Point;
-use ct_version::{Finished, Version};
+use ct_version::Version;
 use ct_walk::Move;
 use std::alloc::{AllocError, Global};
 use std::sync::Arc;
@@ -91,24 +90,12 @@ pub fn next_version(
     let before = version.moves();
     let moves = before.extended(alloc, new)?;
     let more = Buckets::prepare(alloc, moves.instance(), &moves, before.len() + 1)?;
-    let Opening { finished, queue } = opened_above(alloc, buckets, &more, opened_by(version))?;
+    let next = version.finished().behind();
+    let Opening { finished, queue } = opened_above(alloc, buckets, &more, next)?;
     let version = shared(alloc, Version::new(moves, version.number() + 1, finished))?;
     Ok(Following {
         version,
         more,
         queue,
     })
-}
-
-// The grade that the version opens.
-fn opened_by(version: &Version) -> u64
-    requires { (l : ℕ) × (level_of version.now.instance version.now.number ≡ upto l) × (l < GRADE_LIMIT) }
-    ensures level { level_of version.now.instance version.now.number ≡ upto (result - 1) }
-    ensures some { 1 ≤ result }
-    ensures most { result ≤ GRADE_LIMIT }
-{
-    match version.finished() {
-        Finished::All => unreachable!(),
-        Finished::Upto(level) => level + 1,
-    }
 }

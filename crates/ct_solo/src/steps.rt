@@ -1,5 +1,5 @@
 //! From one version to the next.
-ghost use Rattle.std.specs.Prelude.{◌≡◌, ◌+◌, ◌-◌, ◌≤◌, ◌<◌, ◌++◌, ℕ, Some, suc, length, All, IfOk, OnOk};
+ghost use Rattle.std.specs.Prelude.{◌≡◌, ◌+◌, ◌≤◌, ◌<◌, ◌++◌, ℕ, suc, length, All, IfOk};
 ghost use Rattle.std.specs.Arc.{arc_value};
 ghost use Rattle.ct_vectors.specs.declared.limits.TheConstants.{GRADE_LIMIT, MOVE_LIMIT};
 ghost use Rattle.ct_instance.specs.Versions.{upto, level_of, version_list};
@@ -29,7 +29,7 @@ pub fn moves_brought(
     ensures small { IfOk result (λ v. All (IsSmallMove version.now.instance) v.items) }
 {
     let moves = version.moves();
-    let points = points_left(alloc, moves, agenda.jobs(opened_by(version)))?;
+    let points = points_left(alloc, moves, agenda.jobs(version.finished().behind()))?;
     let all = lent(alloc, points.as_slice())?;
     new_moves(alloc, moves.instance(), all.as_slice())
 }
@@ -53,21 +53,8 @@ pub fn following(
 {
     let before = version.moves();
     let moves = before.extended(alloc, new)?;
-    agenda.close(opened_by(version));
+    agenda.close(version.finished().behind());
     take_pairs(agenda, &moves, before.len() + 1)?;
     let finished = Finished::below(agenda.next());
     shared(alloc, Version::new(moves, version.number() + 1, finished))
-}
-
-// The grade that the version opens.
-fn opened_by(version: &Version) -> u64
-    requires { (l : ℕ) × (level_of version.now.instance version.now.number ≡ upto l) × (l < GRADE_LIMIT) }
-    ensures level { level_of version.now.instance version.now.number ≡ upto (result - 1) }
-    ensures some { 1 ≤ result }
-    ensures most { result ≤ GRADE_LIMIT }
-{
-    match version.finished() {
-        Finished::All => unreachable!(),
-        Finished::Upto(level) => level + 1,
-    }
 }

@@ -1,6 +1,7 @@
 //! How far a version is finished.
-ghost use Rattle.std.specs.Prelude.{◌≡◌, IsTrue, ◌↔◌};
-ghost use Rattle.ct_instance.specs.Versions.{Covers};
+ghost use Rattle.std.specs.Prelude.{◌≡◌, ◌-◌, ◌≤◌, ◌<◌, ℕ, IsTrue, ◌↔◌};
+ghost use Rattle.ct_vectors.specs.declared.limits.TheConstants.{GRADE_LIMIT};
+ghost use Rattle.ct_instance.specs.Versions.{Covers, upto};
 ghost use Rattle.ct_version.specs.Editions.{level_seen, level_below};
 
 /// The level of a version: the grades for which its list of moves is the whole test list.
@@ -20,6 +21,19 @@ impl Finished {
         match next {
             None => Finished::All,
             Some(grade) => Finished::Upto(grade.saturating_sub(1)),
+        }
+    }
+
+    /// The grade behind the level: the next for which the list may not be finished.
+    pub fn behind(self) -> u64
+        requires { (l : ℕ) × (level_seen self ≡ upto l) × (l < GRADE_LIMIT) }
+        ensures level { level_seen self ≡ upto (result - 1) }
+        ensures some { 1 ≤ result }
+        ensures most { result ≤ GRADE_LIMIT }
+    {
+        match self {
+            Finished::All => unreachable!(),
+            Finished::Upto(level) => level + 1,
         }
     }
 

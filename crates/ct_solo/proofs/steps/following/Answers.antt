@@ -21,8 +21,8 @@ close-requires c =
     let a = c.args.agenda.now in
     let e = c.moves-before.ensures.version in
     let o : IsOpen v a = record { instance = e.instance; version = e.version; agenda = c.requires.agenda; level = c.requires.opens.0; opens = c.requires.opens.1; below = c.requires.opens.2; top = c.requires.top } in
-    let d : ℕ = c.opened_by.result in
-    let at : d ≡ o.level + 1 = opened_is_next_grade v a o d c.opened_by.ensures.level c.opened_by.ensures.some in
+    let d : ℕ = c.behind.result in
+    let at : d ≡ o.level + 1 = opened_is_next_grade v a o d (sym c.finished.ensures ∙ c.behind.ensures.level) c.behind.ensures.some in
     omega (arith, opened_below v a o, at)
 
 pub new-requires-clause-version : goal.new-requires-clause-version
@@ -64,8 +64,8 @@ new-requires-clause-level c =
     let a = c.args.agenda.now in
     let e = c.moves-before.ensures.version in
     let o : IsOpen v a = record { instance = e.instance; version = e.version; agenda = c.requires.agenda; level = c.requires.opens.0; opens = c.requires.opens.1; below = c.requires.opens.2; top = c.requires.top } in
-    let d : ℕ = c.opened_by.result in
-    let at : d ≡ o.level + 1 = opened_is_next_grade v a o d c.opened_by.ensures.level c.opened_by.ensures.some in
+    let d : ℕ = c.behind.result in
+    let at : d ≡ o.level + 1 = opened_is_next_grade v a o d (sym c.finished.ensures ∙ c.behind.ensures.level) c.behind.ensures.some in
     let after = c.in_ok-moves.moves in
     let new = c.args.new.items in
     let n : IsStep v a o after new = record {
@@ -91,8 +91,8 @@ returns-clause-agenda c =
     let a = c.args.agenda.now in
     let e = c.moves-before.ensures.version in
     let o : IsOpen v a = record { instance = e.instance; version = e.version; agenda = c.requires.agenda; level = c.requires.opens.0; opens = c.requires.opens.1; below = c.requires.opens.2; top = c.requires.top } in
-    let d : ℕ = c.opened_by.result in
-    let at : d ≡ o.level + 1 = opened_is_next_grade v a o d c.opened_by.ensures.level c.opened_by.ensures.some in
+    let d : ℕ = c.behind.result in
+    let at : d ≡ o.level + 1 = opened_is_next_grade v a o d (sym c.finished.ensures ∙ c.behind.ensures.level) c.behind.ensures.some in
     let after = c.in_ok-moves.moves in
     let new = c.args.new.items in
     let n : IsStep v a o after new = record {

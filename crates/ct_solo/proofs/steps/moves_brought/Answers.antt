@@ -16,8 +16,8 @@ points_left-requires c =
     let a = c.args.agenda.now in
     let e = c.moves-moves.ensures.version in
     let o : IsOpen v a = record { instance = e.instance; version = e.version; agenda = c.requires.agenda; level = c.requires.opens.0; opens = c.requires.opens.1; below = c.requires.opens.2; top = c.requires.top } in
-    let d : ℕ = c.opened_by.result in
-    let at : d ≡ o.level + 1 = opened_is_next_grade v a o d c.opened_by.ensures.level c.opened_by.ensures.some in
+    let d : ℕ = c.behind.result in
+    let at : d ≡ o.level + 1 = opened_is_next_grade v a o d (sym c.finished.ensures ∙ c.behind.ensures.level) c.behind.ensures.some in
     subst (λ (js : List Job). All (IsSmallJob c.moves-moves.result.now.instance c.moves-moves.result.now.moves) js) (sym c.jobs.ensures)
     (subst₂ (λ (i : Problem) (ms : List Binomial). All (IsSmallJob i ms) (jobs_of a d)) (sym c.moves-moves.ensures.instance) (sym c.moves-moves.ensures.list) (small_jobs v a o d at))
 
@@ -27,8 +27,8 @@ new_moves-requires c =
     let a = c.args.agenda.now in
     let e = c.moves-moves.ensures.version in
     let o : IsOpen v a = record { instance = e.instance; version = e.version; agenda = c.requires.agenda; level = c.requires.opens.0; opens = c.requires.opens.1; below = c.requires.opens.2; top = c.requires.top } in
-    let d : ℕ = c.opened_by.result in
-    let at : d ≡ o.level + 1 = opened_is_next_grade v a o d c.opened_by.ensures.level c.opened_by.ensures.some in
+    let d : ℕ = c.behind.result in
+    let at : d ≡ o.level + 1 = opened_is_next_grade v a o d (sym c.finished.ensures ∙ c.behind.ensures.level) c.behind.ensures.some in
     let points = c.in_ok-points.points.items in
     let seen : points_seen c.as_slice-2.result.now ≡ points = ap points_seen c.as_slice-2.ensures.value ∙ c.in_ok-all.ensures ∙ c.as_slice.ensures.value in
     let leaves : LeavesPoints v.instance (version_list v.instance v.number) (jobs_of a d) points =
@@ -43,8 +43,8 @@ returns-clause-list c =
     let a = c.args.agenda.now in
     let e = c.moves-moves.ensures.version in
     let o : IsOpen v a = record { instance = e.instance; version = e.version; agenda = c.requires.agenda; level = c.requires.opens.0; opens = c.requires.opens.1; below = c.requires.opens.2; top = c.requires.top } in
-    let d : ℕ = c.opened_by.result in
-    let at : d ≡ o.level + 1 = opened_is_next_grade v a o d c.opened_by.ensures.level c.opened_by.ensures.some in
+    let d : ℕ = c.behind.result in
+    let at : d ≡ o.level + 1 = opened_is_next_grade v a o d (sym c.finished.ensures ∙ c.behind.ensures.level) c.behind.ensures.some in
     let points = c.in_ok-points.points.items in
     let seen : points_seen c.as_slice-2.result.now ≡ points = ap points_seen c.as_slice-2.ensures.value ∙ c.in_ok-all.ensures ∙ c.as_slice.ensures.value in
     let leaves : LeavesPoints v.instance (version_list v.instance v.number) (jobs_of a d) points =

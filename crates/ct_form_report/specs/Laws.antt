@@ -9,6 +9,7 @@ use Rattle.ct_legal.specs.Legal.{IsLegalServed, IsLegalAnswered}
 use Rattle.ct_form.specs.Forms.{Form}
 use Rattle.ct_form.specs.EqualityForms.{equal_of, IsForm}
 use Rattle.ct_form_report.specs.FormCases.{form_case, widened, trimmed}
+use Rattle.ct_form_report.specs.FormHeadline.{AreTrueOfForm}
 
 -- a run of an instance that begins with its moves up to some grade
 abbrev pub opened_case : Case → ℕ → Case
@@ -35,3 +36,15 @@ WidenedWithSolves = (f : Form) (script : Script) → with_solves (widened f scri
 -- and what is widened is a script of the equality form
 abbrev pub WidenedIsScript : Type 0
 WidenedIsScript = (f : Form) → IsForm f → (script : Script) → IsScript f.rows script → IsScript (equal_of f).rows (widened f script)
+
+-- each line of a legal report of a form is true where asks may be answered or not yet
+abbrev pub ServedOfFormIsTrue : Type 0
+ServedOfFormIsTrue =
+    (f : Form) → IsForm f → (limit : ℕ) (walks levels : Bool) (opened : ℕ) (script : Script) → IsScript f.rows script → (report : Report) →
+    IsLegalServed (form_case f limit walks levels opened) script report → AreTrueOfForm f limit walks levels script.phases report.phases
+
+-- and where each ask is taken as a solve
+abbrev pub AnsweredOfFormIsTrue : Type 0
+AnsweredOfFormIsTrue =
+    (f : Form) → IsForm f → (limit : ℕ) (walks levels : Bool) (opened : ℕ) (script : Script) → IsScript f.rows script → (report : Report) →
+    IsLegalAnswered (form_case f limit walks levels opened) script report → AreTrueOfForm f limit walks levels (with_solves script).phases report.phases

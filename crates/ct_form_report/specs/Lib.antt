@@ -1,2 +1,3 @@
 pub mod FormCases
+pub mod FormHeadline
 pub mod Laws

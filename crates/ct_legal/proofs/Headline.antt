@@ -6,7 +6,7 @@ use Rattle.ct_vectors.specs.Vectors.{total}
 use Rattle.ct_instance.specs.Instance.{Problem, IsInstance, IsRight}
 use Rattle.ct_instance.specs.Fiber.{least_of}
 use Rattle.ct_instance.specs.Answer.{answer_of}
-use Rattle.ct_instance.specs.TestSet.{Binomial, test_list, IsTestList}
+use Rattle.ct_instance.specs.TestSet.{Binomial, test_list}
 use Rattle.ct_instance.specs.Versions.{Level, Covers}
 use Rattle.ct_instance.specs.Reach.{full_grade_up_to, reach_of}
 use Rattle.ct_instance.proofs.Answer.{answer_is_optimum, answer_is_short, short_has_no_solution}
@@ -22,28 +22,39 @@ use Rattle.ct_version.specs.declared.answers.Answer.{Answer}
 use Rattle.ct_version.specs.declared.answers.Answer.TheVariants.{Optimum, Infeasible}
 use Rattle.ct_version.specs.declared.finished.Finished.{Finished}
 use Rattle.ct_version.specs.Answers.{outcome_seen}
-use Rattle.ct_version.specs.Editions.{level_seen}
 use Rattle.ct_session.specs.declared.lines.Line.{Line}
 use Rattle.ct_session.specs.declared.lines.Line.TheVariants.{Answered, NotYet, Full}
 use Rattle.ct_session.specs.Lines.{IsWalkShown, IsFullOrAnswered}
 use Rattle.ct_report.specs.declared.reports.PhaseReport.{PhaseReport}
-use Rattle.ct_legal.specs.Cases.{Case, plain_case}
+use Rattle.ct_legal.specs.Cases.{Case, plain_case, sum_of}
 use Rattle.ct_legal.specs.Scripts.{with_solves, grade_after}
 use Rattle.ct_legal.specs.Legal.{IsAsked, low_after, AreLegalLines, AreLegalSessions, IsLevelShown, AreLegalPhases}
 use Rattle.ct_legal.proofs.Scripts.{solves_are_script}
 use Rattle.ct_legal.specs.Headline.{SaysRight, IsWalkTold, HasRoom, IsFirstFull, IsTrueLine, low_told, AreTrueLines, IsLevelTold, AreTruePhases, ServedIsTrue, AnsweredIsTrue}
 
-module _ (i : Problem) (inst : IsInstance i) (limit : ℕ) (walks levels : Bool) where
-  abbrev case : Case
-  case = plain_case i limit walks levels
+-- The instance has a right-hand side for each list of m numbers, and what the case shows of them is what an answer says.
+pub record SaysAsShown (m : ℕ) (c : Case) (Says : List ℕ → Answer → Type 0) : Type 0 where
+  pub instance : IsInstance c.instance
+  pub right : (b : List ℕ) → length b ≡ m → IsRight c.instance (c.right b)
+  pub says : (b : List ℕ) → length b ≡ m → (answer : Answer) → outcome_seen answer ≡ c.shown b → Says b answer
 
-  -- ---- answers
+module _ (m : ℕ) (c : Case) (Says : List ℕ → Answer → Type 0) (h : SaysAsShown m c Says) where
+  abbrev i : Problem
+  i = c.instance
 
-  says_right : (b : List ℕ) → IsRight i b → (answer : Answer) → outcome_seen answer ≡ answer_of i b → SaysRight i b answer
-  says_right b right (Optimum x costs) same = (answer_is_optimum i inst b right x costs).0 (sym same)
-  says_right b right (Infeasible short) same =
-      let is = (answer_is_short i inst b right short).0 (sym same) in
-      (is, short_has_no_solution i b short is)
+  abbrev inst : IsInstance i
+  inst = h.instance
+
+  abbrev limit : ℕ
+  limit = c.limit
+
+  abbrev IsTrue : ℕ → Request → Line → Type 0
+  IsTrue low request line = IsTrueLine i c.right Says limit c.walks c.levels low request line
+
+  abbrev AreTrue : ℕ → List Request → List Line → Type 0
+  AreTrue low requests lines = AreTrueLines i c.right Says limit c.walks c.levels low requests lines
+
+  -- ---- walks
 
   walk_told : (wanted : Bool) (b : List ℕ) → IsRight i b → (walk : Option (List (ℕ × ℕ))) → IsWalkShown i wanted b walk → IsWalkTold i wanted b walk
   walk_told true b right (Some steps) is = record {
@@ -75,47 +86,47 @@ module _ (i : Problem) (inst : IsInstance i) (limit : ℕ) (walks levels : Bool)
 
   -- ---- lines
 
-  asked_true : (floor low : ℕ) (b : List ℕ) → IsRight i b → (line : Line) → IsAsked case floor low b line → IsTrueLine i limit walks low (Ask b) line
+  asked_true : (floor low : ℕ) (b : List ℕ) → length b ≡ m → (line : Line) → IsAsked c floor low b line → IsTrue low (Ask b) line
   asked_true floor low b right (Answered answer walk) is =
-      (has_room (total b) ((full_none i limit (total b)).0 is.0), says_right b right answer (is.1).0, walk_told walks b right walk (is.1).1)
+      (has_room (sum_of c b) ((full_none i limit (sum_of c b)).0 is.0), h.says b right answer (is.1).0, walk_told c.walks (c.right b) (h.right b right) walk (is.1).1)
   asked_true floor low b right (NotYet f) is = (is.rises, is.below)
   asked_true floor low b right (Full g) is = absurd is
 
-  solved_true : (low : ℕ) (b : List ℕ) → IsRight i b → (full : Option ℕ) → full_grade_up_to i limit (total b) ≡ full → (line : Line) →
-      IsFullOrAnswered full i walks (answer_of i b) b line → IsTrueLine i limit walks low (Solve b) line
-  solved_true low b right (Some f) at line is = subst (IsTrueLine i limit walks low (Solve b)) (sym is) (first_full (total b) f at)
+  solved_true : (low : ℕ) (b : List ℕ) → length b ≡ m → (full : Option ℕ) → full_grade_up_to i limit (sum_of c b) ≡ full → (line : Line) →
+      IsFullOrAnswered full i c.walks (c.shown b) (c.right b) line → IsTrue low (Solve b) line
+  solved_true low b right (Some f) at line is = subst (IsTrue low (Solve b)) (sym is) (first_full (sum_of c b) f at)
   solved_true low b right None at (Answered answer walk) is =
-      (has_room (total b) ((full_none i limit (total b)).0 at), says_right b right answer is.0, walk_told walks b right walk is.1)
+      (has_room (sum_of c b) ((full_none i limit (sum_of c b)).0 at), h.says b right answer is.0, walk_told c.walks (c.right b) (h.right b right) walk is.1)
   solved_true low b right None at (NotYet f) is = absurd is
   solved_true low b right None at (Full g) is = absurd is
 
-  low_same : (low : ℕ) (request : Request) (line : Line) → low_after case low (right_of request) line ≡ low_told low request line
+  low_same : (low : ℕ) (request : Request) (line : Line) → low_after c low (right_of request) line ≡ low_told c.right low request line
   low_same low request (Answered answer walk) = refl
   low_same low request (NotYet f) = refl
   low_same low request (Full g) = refl
 
-  lines_true : (requests : List Request) (lines : List Line) (floor low : ℕ) → All (IsRequest i.rows) requests → AreLegalLines case floor low requests lines → AreTrueLines i limit walks low requests lines
+  lines_true : (requests : List Request) (lines : List Line) (floor low : ℕ) → All (IsRequest m) requests → AreLegalLines c floor low requests lines → AreTrue low requests lines
   lines_true [] [] floor low are legal = tt
   lines_true [] (line ∷ lines) floor low are legal = absurd legal
   lines_true (Ask b ∷ requests) [] floor low are legal = absurd legal
   lines_true (Solve b ∷ requests) [] floor low are legal = absurd legal
   lines_true (Ask b ∷ requests) (line ∷ lines) floor low are legal =
-      let first : IsRequest i.rows (Ask b) = All-head (IsRequest i.rows) (Ask b) requests are in
-      let later = lines_true requests lines floor (low_after case low b line) (All-tail (IsRequest i.rows) (Ask b) requests are) legal.1 in
-      (asked_true floor low b first.right line legal.0, subst (λ (l : ℕ). AreTrueLines i limit walks l requests lines) (low_same low (Ask b) line) later)
+      let first : IsRequest m (Ask b) = All-head (IsRequest m) (Ask b) requests are in
+      let later = lines_true requests lines floor (low_after c low b line) (All-tail (IsRequest m) (Ask b) requests are) legal.1 in
+      (asked_true floor low b first.right line legal.0, subst (λ (l : ℕ). AreTrue l requests lines) (low_same low (Ask b) line) later)
   lines_true (Solve b ∷ requests) (line ∷ lines) floor low are legal =
-      let first : IsRequest i.rows (Solve b) = All-head (IsRequest i.rows) (Solve b) requests are in
-      let later = lines_true requests lines (max floor (total b)) (low_after case low b line) (All-tail (IsRequest i.rows) (Solve b) requests are) legal.1 in (
-        solved_true low b first.right (full_grade_up_to i limit (total b)) refl line legal.0,
-        subst (λ (l : ℕ). AreTrueLines i limit walks l requests lines) (low_same low (Solve b) line) later,
+      let first : IsRequest m (Solve b) = All-head (IsRequest m) (Solve b) requests are in
+      let later = lines_true requests lines (max floor (sum_of c b)) (low_after c low b line) (All-tail (IsRequest m) (Solve b) requests are) legal.1 in (
+        solved_true low b first.right (full_grade_up_to i limit (sum_of c b)) refl line legal.0,
+        subst (λ (l : ℕ). AreTrue l requests lines) (low_same low (Solve b) line) later,
       )
 
   -- ---- sessions and phases
 
   abbrev every : List Request → Type 0
-  every requests = All (IsRequest i.rows) requests
+  every requests = All (IsRequest m) requests
 
-  sessions_true : (sessions : List (List Request)) (told : List (List Line)) (floor : ℕ) → All every sessions → AreLegalSessions case floor sessions told → AllZip (AreTrueLines i limit walks 0) sessions told
+  sessions_true : (sessions : List (List Request)) (told : List (List Line)) (floor : ℕ) → All every sessions → AreLegalSessions c floor sessions told → AllZip (AreTrue 0) sessions told
   sessions_true [] [] floor are legal = tt
   sessions_true [] (lines ∷ told) floor are legal = absurd legal
   sessions_true (requests ∷ sessions) [] floor are legal = absurd legal
@@ -131,19 +142,32 @@ module _ (i : Problem) (inst : IsInstance i) (limit : ℕ) (walks levels : Bool)
   level_told false target g below (Some finished) is = absurd is
   level_told false target g below None is = tt
 
-  phases_true : (phases : List Phase) (told : List PhaseReport) (grade : ℕ) → All (IsPhase i.rows) phases → AreLegalPhases case grade phases told → AreTruePhases i limit walks levels phases told
+  pub phases_true : (phases : List Phase) (told : List PhaseReport) (grade : ℕ) → All (IsPhase m) phases → AreLegalPhases c grade phases told →
+      AreTruePhases i c.right Says limit c.walks c.levels phases told
   phases_true [] [] grade are legal = tt
   phases_true [] (one ∷ told) grade are legal = absurd legal
   phases_true (phase ∷ phases) [] grade are legal = absurd legal
   phases_true (phase ∷ phases) (one ∷ told) grade are legal =
-      let first : IsPhase i.rows phase = All-head (IsPhase i.rows) phase phases are in
-      let below : phase.target ≤ grade_after case grade phase = omega arith in (
-        (sessions_true phase.sessions one.sessions (max 0 grade) first.sessions legal.0, level_told levels phase.target (grade_after case grade phase) below one.level legal.1),
-        phases_true phases told (grade_after case grade phase) (All-tail (IsPhase i.rows) phase phases are) legal.2,
+      let first : IsPhase m phase = All-head (IsPhase m) phase phases are in
+      let below : phase.target ≤ grade_after c grade phase = omega arith in (
+        (sessions_true phase.sessions one.sessions (max c.opened grade) first.sessions legal.0, level_told c.levels phase.target (grade_after c grade phase) below one.level legal.1),
+        phases_true phases told (grade_after c grade phase) (All-tail (IsPhase m) phase phases are) legal.2,
       )
 
+-- ---- an instance that is asked for its own right-hand sides
+
+says_right : (i : Problem) → IsInstance i → (b : List ℕ) → IsRight i b → (answer : Answer) → outcome_seen answer ≡ answer_of i b → SaysRight i b answer
+says_right i inst b right (Optimum x costs) same = (answer_is_optimum i inst b right x costs).0 (sym same)
+says_right i inst b right (Infeasible short) same =
+    let is = (answer_is_short i inst b right short).0 (sym same) in
+    (is, short_has_no_solution i b short is)
+
+plain_says : (i : Problem) → IsInstance i → (most : ℕ) (walks levels : Bool) → SaysAsShown i.rows (plain_case i most walks levels) (SaysRight i)
+plain_says i inst most walks levels = record { instance = inst; right = λ b right. right; says = says_right i inst }
+
 pub served_is_true : ServedIsTrue
-served_is_true i inst limit walks levels script is report legal = phases_true i inst limit walks levels script.phases report.phases 0 is legal
+served_is_true i inst limit walks levels script is report legal =
+    phases_true i.rows (plain_case i limit walks levels) (SaysRight i) (plain_says i inst limit walks levels) script.phases report.phases 0 is legal
 
 pub answered_is_true : AnsweredIsTrue
 answered_is_true i inst limit walks levels script is report legal = served_is_true i inst limit walks levels (with_solves script) (solves_are_script i.rows script is) report legal

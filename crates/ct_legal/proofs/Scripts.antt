@@ -1,5 +1,5 @@
 -- With its asks as solves a script is a script.
-use Rattle.std.proofs.Common.{ℕ, ◌≤◌, List, map, length, All, sym, subst}
+use Rattle.std.proofs.Common.{ℕ, ◌≤◌, List, map, All, sym, subst}
 use Rattle.std.proofs.lemmas.List.{length-map}
 use Rattle.std.proofs.lemmas.List.Elements.{All-map, All-weaker}
 use Rattle.ct_vectors.specs.declared.limits.TheConstants.{SESSION_LIMIT}

@@ -1,5 +1,5 @@
 -- What a session shows is legal, by induction over what is shown.
-use Rattle.std.proofs.Common.{ℕ, ◌+◌, ◌/◌, ◌%◌, ◌≤◌, ◌<◌, ◌≡◌, ◌⊎◌, ⊎_elim, max, Bool, cond, nat_eq, true, false, Option, Some, None, List, [], ◌∷◌, refl, sym, ap, subst, ◌∙◌, arith}
+use Rattle.std.proofs.Common.{ℕ, ◌+◌, ◌≤◌, ◌≡◌, ⊎_elim, max, Bool, Option, Some, None, List, refl, sym, subst, arith}
 use Rattle.std.proofs.lemmas.Bool.{cases_lt}
 use Rattle.ct_vectors.specs.Vectors.{total}
 use Rattle.ct_instance.specs.Instance.{IsInstance}
@@ -10,14 +10,13 @@ use Rattle.ct_levels.proofs.Levels.{levels_rise}
 use Rattle.ct_levels.proofs.Full.{no_full_within}
 use Rattle.ct_levels.proofs.Reach.{reach_covers}
 use Rattle.ct_input.specs.declared.script.Request.{Request}
-use Rattle.ct_input.specs.declared.script.Request.TheVariants.{Ask, Solve}
 use Rattle.ct_version.specs.Desks.{Place}
 use Rattle.ct_session.specs.declared.lines.Line.{Line}
 use Rattle.ct_session.specs.declared.lines.Line.TheVariants.{Answered, NotYet, Full}
-use Rattle.ct_session.specs.Lines.{IsAskLine, IsSolveLine, IsFullOrAnswered}
+use Rattle.ct_session.specs.Lines.{IsAskLine, IsFullOrAnswered}
 use Rattle.ct_session.specs.Shown.{HasReached, AskStep, SolveStep, AreShown, nothing, asked, solved}
 use Rattle.ct_session.proofs.Parts.{ask_rises}
-use Rattle.ct_legal.specs.Cases.{Case, plain_case}
+use Rattle.ct_legal.specs.Cases.{plain_case}
 use Rattle.ct_legal.specs.Legal.{IsAtMost, IsAsked, AreLegalLines, low_after}
 
 -- ---- levels

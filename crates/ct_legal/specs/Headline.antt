@@ -58,57 +58,59 @@ pub record IsFirstFull (i : Problem) (limit g : ℕ) : Type 0 where
   pub full : HasRoom i limit g → ⊥
   pub first : (h : ℕ) → h < g → HasRoom i limit h
 
--- ---- lines
-
--- Full is told of a solve exactly where the test list of some grade up to its sum has more moves than the limit. Not yet is
--- told of an ask alone, with a level below its sum that is no lower than what its session was told before.
-abbrev pub IsTrueLine : Problem → ℕ → Bool → ℕ → Request → Line → Type 0
-IsTrueLine i limit walks low request (Answered answer walk) =
-    HasRoom i limit (total (right_of request)) × SaysRight i (right_of request) answer × IsWalkTold i walks (right_of request) walk
-IsTrueLine i limit walks low (Solve b) (Full g) = (g ≤ total b) × IsFirstFull i limit g
-IsTrueLine i limit walks low (Ask b) (NotYet f) = (low ≤ f) × (f < total b)
-IsTrueLine i limit walks low request line = ⊥
-
--- the least level that may be told after this line: a sum that was answered is never early again
-abbrev pub low_told : ℕ → Request → Line → ℕ
-low_told low request (Answered answer walk) = max low (total (right_of request))
-low_told low request (NotYet f) = max low f
-low_told low request (Full g) = low
-
--- one line for each request, in order
-abbrev pub AreTrueLines : Problem → ℕ → Bool → ℕ → List Request → List Line → Type 0
-AreTrueLines i limit walks low [] [] = Unit {0}
-AreTrueLines i limit walks low (request ∷ requests) (line ∷ lines) =
-    IsTrueLine i limit walks low request line × AreTrueLines i limit walks (low_told low request line) requests lines
-AreTrueLines i limit walks low requests lines = ⊥
-
--- ---- phases
-
 -- a level is told exactly where levels are asked for: it is at least the target, unless that has too many moves
 abbrev pub IsLevelTold : Problem → ℕ → Bool → ℕ → Option Finished → Type 0
 IsLevelTold i limit true target (Some finished) = HasRoom i limit target → Covers (level_seen finished) target
 IsLevelTold i limit false target None = Unit {0}
 IsLevelTold i limit levels target level = ⊥
 
--- the lines of each session, in order, which starts with the level 0; and the level at the end
-abbrev pub IsTruePhase : Problem → ℕ → Bool → Bool → Phase → PhaseReport → Type 0
-IsTruePhase i limit walks levels phase told =
-    AllZip (AreTrueLines i limit walks 0) phase.sessions told.sessions × IsLevelTold i limit levels phase.target told.level
+-- ---- what is told
 
--- what is told of each phase, in order
-abbrev pub AreTruePhases : Problem → ℕ → Bool → Bool → List Phase → List PhaseReport → Type 0
-AreTruePhases i limit walks levels phases told = AllZip (IsTruePhase i limit walks levels) phases told
+-- the sum of the right-hand side that an instance has for a request
+abbrev pub asked_sum : (List ℕ → List ℕ) → Request → ℕ
+asked_sum right request = total (right (right_of request))
 
--- ---- legal reports
+-- the least level that may be told after this line: a sum that was answered is never early again
+abbrev pub low_told : (List ℕ → List ℕ) → ℕ → Request → Line → ℕ
+low_told right low request (Answered answer walk) = max low (asked_sum right request)
+low_told right low request (NotYet f) = max low f
+low_told right low request (Full g) = low
+
+-- of an instance, the right-hand side that it has for the numbers of a request, and what an answer says of those numbers
+module _ (i : Problem) (right : List ℕ → List ℕ) (Says : List ℕ → Answer → Type 0) (limit : ℕ) (walks levels : Bool) where
+  -- Full is told of a solve exactly where the test list of some grade up to its sum has more moves than the limit. Not yet is
+  -- told of an ask alone, with a level below its sum that is no lower than what its session was told before.
+  abbrev pub IsTrueLine : ℕ → Request → Line → Type 0
+  IsTrueLine low request (Answered answer walk) =
+      HasRoom i limit (asked_sum right request) × Says (right_of request) answer × IsWalkTold i walks (right (right_of request)) walk
+  IsTrueLine low (Solve b) (Full g) = (g ≤ total (right b)) × IsFirstFull i limit g
+  IsTrueLine low (Ask b) (NotYet f) = (low ≤ f) × (f < total (right b))
+  IsTrueLine low request line = ⊥
+
+  -- one line for each request, in order
+  abbrev pub AreTrueLines : ℕ → List Request → List Line → Type 0
+  AreTrueLines low [] [] = Unit {0}
+  AreTrueLines low (request ∷ requests) (line ∷ lines) = IsTrueLine low request line × AreTrueLines (low_told right low request line) requests lines
+  AreTrueLines low requests lines = ⊥
+
+  -- the lines of each session, in order, which starts with the level 0; and the level at the end
+  abbrev pub IsTruePhase : Phase → PhaseReport → Type 0
+  IsTruePhase phase told = AllZip (AreTrueLines 0) phase.sessions told.sessions × IsLevelTold i limit levels phase.target told.level
+
+  -- what is told of each phase, in order
+  abbrev pub AreTruePhases : List Phase → List PhaseReport → Type 0
+  AreTruePhases phases told = AllZip IsTruePhase phases told
+
+-- ---- legal reports of an instance that is asked for its own right-hand sides
 
 -- each line of a legal report is true where asks may be answered or not yet
 abbrev pub ServedIsTrue : Type 0
 ServedIsTrue =
     (i : Problem) → IsInstance i → (limit : ℕ) (walks levels : Bool) (script : Script) → IsScript i.rows script → (report : Report) →
-    IsLegalServed (plain_case i limit walks levels) script report → AreTruePhases i limit walks levels script.phases report.phases
+    IsLegalServed (plain_case i limit walks levels) script report → AreTruePhases i (λ b. b) (SaysRight i) limit walks levels script.phases report.phases
 
 -- and where each ask is taken as a solve
 abbrev pub AnsweredIsTrue : Type 0
 AnsweredIsTrue =
     (i : Problem) → IsInstance i → (limit : ℕ) (walks levels : Bool) (script : Script) → IsScript i.rows script → (report : Report) →
-    IsLegalAnswered (plain_case i limit walks levels) script report → AreTruePhases i limit walks levels (with_solves script).phases report.phases
+    IsLegalAnswered (plain_case i limit walks levels) script report → AreTruePhases i (λ b. b) (SaysRight i) limit walks levels (with_solves script).phases report.phases

@@ -27,9 +27,35 @@ def read_instance(text):
         told = json.loads(text)
         return [list(it) for it in zip(*told["matrix"])], told["cost"] if isinstance(told["cost"][0], list) else [told["cost"]]
     words = words_of(text)
-    n, rest = int(words[5]), 7 + int(words[3]) * int(words[5])
+    m, n = int(words[3]), int(words[5])
+    rest = 7 + m * n
     numbers = list(map(int, words[7:rest]))
-    return [numbers[j::n] for j in range(n)], [list(map(int, words[at + 1 : at + 1 + n])) for at in range(rest, len(words) - 1, n + 1)]
+    columns = [numbers[j::n] for j in range(n)]
+    relations, bounds = (words[rest + 1 : rest + 1 + m], words[rest + 2 + m : rest + 2 + m + n]) if words[1] == "2" else ([], [])
+    rest += m + n + 2 if words[1] == "2" else 0
+    costs = [list(map(int, words[at + 1 : at + 1 + n])) for at in range(rest, len(words) - 1, n + 1)]
+    return equal(columns, costs, relations, bounds)
+
+
+def equal(columns, costs, relations, bounds):
+    """The columns and costs of the equality form: those of the form, a slack for each `le`, and a row and a slack for each bound."""
+    m, given = len(columns[0]), [j for j, it in enumerate(bounds) if it != "-"]
+    rows = m + len(given)
+    unit = lambda at: [int(it == at) for it in range(rows)]
+    wide = [column + [int(it == j) for it in given] for j, column in enumerate(columns)]
+    slacks = [unit(i) for i, it in enumerate(relations) if it == "le"] + [unit(m + k) for k in range(len(given))]
+    return wide + slacks, [row + [0] * len(slacks) for row in costs]
+
+
+def shape(text):
+    """How many rows and columns the instance text itself has, and its bounds."""
+    words = words_of(text)
+    if text.lstrip().startswith("{") or words[1] != "2":
+        columns, _ = read_instance(text)
+        return len(columns[0]), len(columns), []
+    m, n = int(words[3]), int(words[5])
+    at = 9 + m * n + m
+    return m, n, [int(it) for it in words[at : at + n] if it != "-"]
 
 
 def read_sessions(text, rows):
@@ -114,18 +140,18 @@ class Ledger:
                 first, second = (self.walk(end, it.split()) for end, it in zip(ends, " ".join(entry[len(name) :]).split("|")))
                 need(first == second, f"the ends of {' '.join(name)} aren't led to one point")
 
-    def shows(self, right, line, steps):
-        """Ends well where the ledger and these steps show this answer to a right-hand side."""
+    def shows(self, right, line, steps, told_columns):
+        """Ends well where the ledger and these steps show this answer to a right-hand side, of which so many numbers are told."""
         need(sum(right) <= self.grade, "the sum is above the ledger's grade")
         end = self.walk([0] * len(self.columns) + right, steps)
         need(not any(all(h <= p for h, p in zip(head, end)) for head, _ in self.moves), "a move applies where the walk ends")
         short, *numbers = self.key(end)
-        costs, x = (" ".join(map(str, it)) for it in (numbers[: len(self.costs)], numbers[len(self.costs) :]))
+        costs, x = (" ".join(map(str, it)) for it in (numbers[: len(self.costs)], numbers[len(self.costs) :][:told_columns]))
         told = f"infeasible short {short}" if short else f"optimum {costs} at {x}"
         need(line == told, f"the walk shows {told}")
 
 
-def check_report(ledger, phases, text):
+def check_report(ledger, phases, text, told_columns, bounds):
     """Yields for each request where it stands and why its answer isn't shown, or None where it is."""
     lines = text.split("\n")
     need(lines[-2:] == ["end", ""], "it isn't the text of a report")
@@ -141,7 +167,7 @@ def check_report(ledger, phases, text):
                     need(not line.startswith(("full ", "notyet ")), "it is no answer")
                     word, *steps = next(left).split()
                     need(word == "walk" and steps, "there is no walk")
-                    ledger.shows(right, line, steps)
+                    ledger.shows(right + bounds, line, steps, told_columns)
                 except ValueError as it:
                     why = str(it)
                 yield f"phase {at} session {number} request {request}: {line}", why
@@ -156,7 +182,8 @@ def main(instance, ledger, sessions=None, report=None):
         of = Ledger(read(ledger), columns, costs)
         of.check()
         print(f"the ledger is accepted, up to grade {of.grade} with {len(of.moves)} moves")
-        for where, why in check_report(of, read_sessions(read(sessions), len(columns[0])), read(report)) if report else ():
+        rows, told_columns, bounds = shape(read(instance))
+        for where, why in check_report(of, read_sessions(read(sessions), rows), read(report), told_columns, bounds) if report else ():
             print(f"{where}: {'not shown, ' + why if why else 'shown'}")
             shown = shown and not why
     except (ValueError, IndexError, StopIteration, RuntimeError) as why:

@@ -45,9 +45,9 @@ def main():
     for name in sorted(it for it in os.listdir(EXAMPLES) if os.path.isdir(f"{EXAMPLES}/{it}")):
         form = "json" if os.path.exists(f"{EXAMPLES}/{name}/instance.json") else "txt"
         instance, sessions = (f"{EXAMPLES}/{name}/{it}.{form}" for it in ("instance", "sessions"))
-        columns, _ = checker.read_instance(open(instance, encoding="utf-8").read())
-        phases = checker.read_sessions(open(sessions, encoding="utf-8").read(), len(columns[0]))
-        greatest = max(sum(right) for phase in phases for session in phase for right in session)
+        rows, _, bounds = checker.shape(open(instance, encoding="utf-8").read())
+        phases = checker.read_sessions(open(sessions, encoding="utf-8").read(), rows)
+        greatest = max(sum(right) for phase in phases for session in phase for right in session) + sum(bounds)
         texts = [said(program, "certify", instance, str(greatest)), said(program, "answer", instance, sessions, "--walks")]
         with tempfile.TemporaryDirectory() as folder:
             def files(ledger, report):

@@ -4,17 +4,19 @@ use Rattle.std.specs.List.{AllByRecursion}
 use Rattle.std.specs.Io.KnownBytes.{Appends}
 use Rattle.ct_vectors.specs.declared.limits.TheConstants.{MOVE_LIMIT}
 use Rattle.ct_outside.specs.Shelf.{Told, untold, absent, holds}
-use Rattle.ct_instance.specs.Instance.{Problem, IsInstance}
 use Rattle.ct_input.specs.declared.fault.Fault.{Fault}
 use Rattle.ct_input.specs.declared.script.Phase.{Phase}
 use Rattle.ct_input.specs.declared.script.Script.{Script}
 use Rattle.ct_input.specs.Accepted.{IsAcceptedScript}
 use Rattle.ct_report.specs.declared.reports.Report.{Report}
 use Rattle.ct_report.specs.ReportText.{report_text}
-use Rattle.ct_legal.specs.Cases.{Case, plain_case}
+use Rattle.ct_legal.specs.Cases.{Case}
 use Rattle.ct_legal.specs.Scripts.{with_solves}
-use Rattle.ct_legal.specs.Headline.{AreTruePhases}
-use Rattle.ct_legal.proofs.Headline.{served_is_true, answered_is_true}
+use Rattle.ct_form.specs.Forms.{Form}
+use Rattle.ct_form.specs.EqualityForms.{IsForm}
+use Rattle.ct_form_report.specs.FormCases.{form_case}
+use Rattle.ct_form_report.specs.FormHeadline.{AreTrueOfForm}
+use Rattle.ct_form_report.proofs.FormHeadline.{served_of_form_is_true, answered_of_form_is_true}
 use Rattle.ct_words.specs.Table.{commands}
 use Rattle.ct_words.specs.Role.{WordGiven, ◌>>=◌}
 use Rattle.ct_words.specs.Parts.{has_name, value_of}
@@ -24,14 +26,14 @@ use Rattle.ct_words.specs.declared.table.CommandName.TheVariants as names
 use Rattle.ct_run.specs.declared.status.Status.{Status}
 use Rattle.ct_run.specs.declared.status.Status.TheVariants.{Done, BadInstance, BadSessions}
 use Rattle.ct_run.specs.Words.{answer, best, certify, check, Command, on, make, serve, limit_in, workers_in, two_texts, text_and_number, texts_and_number, one_number, as_command, command_of, IsValueOf}
-use Rattle.ct_run.specs.Forms.{instance_file, session_file}
+use Rattle.ct_run.specs.Forms.{form_file, session_file}
 use Rattle.ct_run.specs.Outcome.{RunOutcome, bad_instance, bad_sessions, answered, served, Wrote, is_stop}
 use Rattle.ct_run.specs.Plan.{Plan, ends, by_value, script_plan, instance_plan, plan_of, plain_of}
 use Rattle.ct_run.specs.Running.{HasBytes, Ends}
 use Rattle.ct_run.specs.Laws.{IsReadAs}
 use Rattle.ct_run.proofs.Within.{said-within, value-within}
 use Rattle.ct_promise.specs.Promise.{AreBytesOf, IsTrueRun, KeepsPromise, Promise, PlainPromise}
-use Rattle.ct_promise.proofs.Inputs.{file_is_instance, file_is_script, served_file_is_read, answered_file_is_read}
+use Rattle.ct_promise.proofs.Inputs.{file_is_form, file_is_script, served_file_is_read, answered_file_is_read}
 
 -- ---- the limit that words say
 
@@ -102,50 +104,50 @@ module _ (told : List ℕ → Told) (old new : Option (List ℕ)) where
   -- ---- what is written
 
   -- a report whose text was appended, the only one with it, each line of which is true
-  abbrev IsTold : Problem → List Phase → ℕ → Bool → Bool → Type 0
-  IsTold i phases limit walks levels = (report : Report) × Appends old new (report_text report) × IsReadAs report × AreTruePhases i limit walks levels phases report.phases
+  abbrev IsTold : Form → List Phase → ℕ → Bool → Bool → Type 0
+  IsTold f phases limit walks levels = (report : Report) × Appends old new (report_text report) × IsReadAs report × AreTrueOfForm f limit walks levels phases report.phases
 
-  answered_told : (i : Problem) → IsInstance i → (limit : ℕ) → limit ≤ MOVE_LIMIT → (walks levels : Bool) (script : Script) → IsAcceptedScript i.rows script →
-      IsDone (answered (plain_case i limit walks levels) script) → IsTold i (with_solves script).phases limit walks levels
-  answered_told i inst limit most walks levels script is done =
+  answered_told : (f : Form) → IsForm f → (limit : ℕ) → limit ≤ MOVE_LIMIT → (walks levels : Bool) (script : Script) → IsAcceptedScript f.rows script →
+      IsDone (answered (form_case f limit walks levels 0) script) → IsTold f (with_solves script).phases limit walks levels
+  answered_told f form limit most walks levels script is done =
       let made = ((done.1).0).1 in (
         made.0,
         subst (λ (text : List ℕ). Appends old new text) (made.1).1 (done.1).1,
-        answered_file_is_read i inst limit most walks levels script is made.0 (made.1).0,
-        answered_is_true i inst limit walks levels script is.0 made.0 (made.1).0,
+        answered_file_is_read f form limit most walks levels 0 script is made.0 (made.1).0,
+        answered_of_form_is_true f form limit walks levels 0 script is.0 made.0 (made.1).0,
       )
 
-  served_told : (i : Problem) → IsInstance i → (limit : ℕ) → limit ≤ MOVE_LIMIT → (walks levels : Bool) (script : Script) → IsAcceptedScript i.rows script →
-      IsDone (served (plain_case i limit walks levels) script) → IsTold i script.phases limit walks levels
-  served_told i inst limit most walks levels script is done =
+  served_told : (f : Form) → IsForm f → (limit : ℕ) → limit ≤ MOVE_LIMIT → (walks levels : Bool) (script : Script) → IsAcceptedScript f.rows script →
+      IsDone (served (form_case f limit walks levels 0) script) → IsTold f script.phases limit walks levels
+  served_told f form limit most walks levels script is done =
       let made = ((done.1).0).1 in (
         made.0,
         subst (λ (text : List ℕ). Appends old new text) (made.1).1 (done.1).1,
-        served_file_is_read i inst limit most walks levels script is made.0 (made.1).0,
-        served_is_true i inst limit walks levels script is.0 made.0 (made.1).0,
+        served_file_is_read f form limit most walks levels 0 script is made.0 (made.1).0,
+        served_of_form_is_true f form limit walks levels 0 script is.0 made.0 (made.1).0,
       )
 
   module _ (instance_name sessions_name : List ℕ) (limit : ℕ) (walks levels : Bool) (taken : Script → Script) (outcome : Case → Script → RunOutcome)
-      (tells : (i : Problem) → IsInstance i → (script : Script) → IsAcceptedScript i.rows script → IsDone (outcome (plain_case i limit walks levels) script) → IsTold i (taken script).phases limit walks levels) where
-    abbrev sessions_of : Problem → Plan
-    sessions_of i = script_plan sessions_name i.rows (λ script. ends (outcome (plain_case i limit walks levels) script))
+      (tells : (f : Form) → IsForm f → (script : Script) → IsAcceptedScript f.rows script → IsDone (outcome (form_case f limit walks levels 0) script) → IsTold f (taken script).phases limit walks levels) where
+    abbrev sessions_of : Form → Plan
+    sessions_of f = script_plan sessions_name f.rows (λ script. ends (outcome (form_case f limit walks levels 0) script))
 
     true_run : Ends (instance_plan instance_name sessions_of) told IsDone → IsTrueRun told old new instance_name sessions_name limit walks levels taken
     true_run ends_so =
-        let file = bytes_told (told instance_name) (λ bytes. Ends (by_value bad_instance sessions_of (instance_file bytes)) told IsDone) ends_so in
-        let i = value_told bad_instance sessions_of (instance_file file.0) no_bad_instance file.2 in
-        let inst = file_is_instance file.0 i.0 i.1 in
-        let go : Script → Plan = λ script. ends (outcome (plain_case i.0 limit walks levels) script) in
-        let other = bytes_told (told sessions_name) (λ bytes. Ends (by_value bad_sessions go (session_file (i.0).rows bytes)) told IsDone) i.2 in
-        let script = value_told bad_sessions go (session_file (i.0).rows other.0) no_bad_sessions other.2 in
-        let is = file_is_script (i.0).rows other.0 script.0 script.1 in
-        let report = tells i.0 inst script.0 is script.2 in
+        let file = bytes_told (told instance_name) (λ bytes. Ends (by_value bad_instance sessions_of (form_file bytes)) told IsDone) ends_so in
+        let f = value_told bad_instance sessions_of (form_file file.0) no_bad_instance file.2 in
+        let form = file_is_form file.0 f.0 f.1 in
+        let go : Script → Plan = λ script. ends (outcome (form_case f.0 limit walks levels 0) script) in
+        let other = bytes_told (told sessions_name) (λ bytes. Ends (by_value bad_sessions go (session_file (f.0).rows bytes)) told IsDone) f.2 in
+        let script = value_told bad_sessions go (session_file (f.0).rows other.0) no_bad_sessions other.2 in
+        let is = file_is_script (f.0).rows other.0 script.0 script.1 in
+        let report = tells f.0 form script.0 is script.2 in
         record {
           instance_bytes = file.0;
           instance_told = file.1;
-          instance = i.0;
-          instance_read = i.1;
-          is_instance = inst;
+          form = f.0;
+          form_read = f.1;
+          is_form = form;
           sessions_bytes = other.0;
           sessions_told = other.1;
           script = script.0;
@@ -160,13 +162,13 @@ module _ (told : List ℕ → Told) (old new : Option (List ℕ)) where
   keeps : (o : Option Command) → HasLimit o → Ends (plan_of o) told IsDone → KeepsPromise told old new o
   keeps None small ends_so = tt
   keeps (Some (on instance (answer sessions walks levels moves))) small ends_so =
-      true_run instance sessions moves walks levels with_solves answered (λ i inst script is done. answered_told i inst moves small walks levels script is done) ends_so
+      true_run instance sessions moves walks levels with_solves answered (λ f form script is done. answered_told f form moves small walks levels script is done) ends_so
   keeps (Some (on instance (best sessions count moves))) small ends_so = tt
   keeps (Some (on instance (certify grade moves))) small ends_so = tt
   keeps (Some (on instance (check ledger))) small ends_so = tt
   keeps (Some (make number)) small ends_so = tt
   keeps (Some (serve instance sessions workers walks levels moves)) small ends_so =
-      true_run instance sessions moves walks levels (λ script. script) served (λ i inst script is done. served_told i inst moves small walks levels script is done) ends_so
+      true_run instance sessions moves walks levels (λ script. script) served (λ f form script is done. served_told f form moves small walks levels script is done) ends_so
 
 pub promise_kept : Promise
 promise_kept words told old new ends_so = keeps told old new (command_of (map string_bytes words)) (command_has_limit (map string_bytes words)) ends_so

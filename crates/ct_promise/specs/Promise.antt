@@ -4,16 +4,17 @@ use Rattle.std.specs.Prelude.{ℕ, ◌≡◌, Bool, List, Option, Some, Ok, Stri
 use Rattle.std.specs.declared.alloc.Global.{Global}
 use Rattle.std.specs.Io.KnownBytes.{Appends}
 use Rattle.ct_outside.specs.Shelf.{Told, HasFile}
-use Rattle.ct_instance.specs.Instance.{Problem, IsInstance}
 use Rattle.ct_input.specs.declared.script.Script.{Script}
 use Rattle.ct_input.specs.Accepted.{IsAcceptedScript}
 use Rattle.ct_report.specs.declared.reports.Report.{Report}
 use Rattle.ct_report.specs.ReportText.{report_text}
 use Rattle.ct_legal.specs.Scripts.{with_solves}
-use Rattle.ct_legal.specs.Headline.{AreTruePhases}
+use Rattle.ct_form.specs.Forms.{Form}
+use Rattle.ct_form.specs.EqualityForms.{IsForm}
+use Rattle.ct_form_report.specs.FormHeadline.{AreTrueOfForm}
 use Rattle.ct_run.specs.declared.status.Status.TheVariants.{Done}
 use Rattle.ct_run.specs.Words.{answer, Command, on, serve, command_of}
-use Rattle.ct_run.specs.Forms.{instance_file, session_file}
+use Rattle.ct_run.specs.Forms.{form_file, session_file}
 use Rattle.ct_run.specs.Outcome.{Wrote}
 use Rattle.ct_run.specs.Plan.{plan_in, plain_plan_in, plain_of}
 use Rattle.ct_run.specs.Running.{Ends}
@@ -23,23 +24,23 @@ use Rattle.ct_run.specs.Laws.{IsReadAs}
 abbrev pub AreBytesOf : Told → List ℕ → Type 0
 AreBytesOf told bytes = HasFile told (λ file. bytes ≡ file)
 
--- The files of these names stand for an instance and a script, and what was appended is the text of one report, each line
+-- The files of these names stand for a form and a script, and what was appended is the text of one report, each line
 -- of which is true of its request; `taken` is the script as the command takes it.
 pub record IsTrueRun (told : List ℕ → Told) (old new : Option (List ℕ)) (instance_name sessions_name : List ℕ) (limit : ℕ) (walks levels : Bool) (taken : Script → Script) : Type 0 where
   pub instance_bytes : List ℕ
   pub instance_told : AreBytesOf (told instance_name) instance_bytes
-  pub instance : Problem
-  pub instance_read : instance_file instance_bytes ≡ Ok instance
-  pub is_instance : IsInstance instance
+  pub form : Form
+  pub form_read : form_file instance_bytes ≡ Ok form
+  pub is_form : IsForm form
   pub sessions_bytes : List ℕ
   pub sessions_told : AreBytesOf (told sessions_name) sessions_bytes
   pub script : Script
-  pub script_read : session_file instance.rows sessions_bytes ≡ Ok script
-  pub is_script : IsAcceptedScript instance.rows script
+  pub script_read : session_file form.rows sessions_bytes ≡ Ok script
+  pub is_script : IsAcceptedScript form.rows script
   pub report : Report
   pub written : Appends old new (report_text report)
   pub one : IsReadAs report
-  pub true_lines : AreTruePhases instance limit walks levels (taken script).phases report.phases
+  pub true_lines : AreTrueOfForm form limit walks levels (taken script).phases report.phases
 
 -- `answer` takes each ask as a solve, and `serve` the script as it stands; of other commands this says nothing
 abbrev pub KeepsPromise : (List ℕ → Told) → Option (List ℕ) → Option (List ℕ) → Option Command → Type 0

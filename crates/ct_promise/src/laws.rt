@@ -1,12 +1,12 @@
 //! Laws of what is promised, as contracts of functions that do nothing.
 
-ghost use Rattle.ct_promise.specs.Inputs.{FileIsInstance, FileIsScript, ServedFileIsRead, AnsweredFileIsRead};
+ghost use Rattle.ct_promise.specs.Inputs.{FileIsForm, FileIsScript, ServedFileIsRead, AnsweredFileIsRead};
 ghost use Rattle.ct_promise.specs.Promise.{Promise, PlainPromise};
 ghost use Rattle.ct_promise.specs.Beside.{CheckedDecides, OneCertificate, OneSummary};
 
-/// A file of either form that is accepted stands for an instance, or for a script of at most 64 phases.
+/// A file of either notation that is accepted stands for a form, or for a script of at most 64 phases.
 pub fn files_are_inputs()
-    ensures instance { FileIsInstance }
+    ensures form { FileIsForm }
     ensures script { FileIsScript }
 {}
 

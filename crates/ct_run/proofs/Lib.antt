@@ -10,4 +10,6 @@ pub mod LedgerFiles
 pub mod FullGrades
 pub mod Summaries
 pub mod ReportLimits
+pub mod ToldForms
+pub mod Listed
 mod Worked

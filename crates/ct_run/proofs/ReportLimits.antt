@@ -1,7 +1,7 @@
 -- A legal report is within the limits of reading.
-use Rattle.std.proofs.Common.{◌≡◌, ℕ, zero, suc, ℤ, pos, ◌+ℤ◌, ◌*ℤ◌, ◌+◌, ◌-◌, ◌*◌, ◌≤◌, ◌<◌, nat_abs, nat_eq, Bool, true, false, cond, List, [], ◌∷◌, length, map, take, All, Option, Some, None, refl, sym, ap, subst, ◌∙◌, arith}
+use Rattle.std.proofs.Common.{◌≡◌, ℕ, zero, suc, ℤ, pos, ◌+ℤ◌, ◌*ℤ◌, ◌+◌, ◌-◌, ◌*◌, ◌≤◌, ◌<◌, nat_abs, nat_eq, Bool, true, false, cond, List, [], ◌∷◌, length, map, take, All, Option, Some, None, refl, sym, ap, subst, ◌∙◌, arith, length-take}
 use Rattle.std.specs.List.{flat_map}
-use Rattle.std.proofs.lemmas.List.{length-map, length-take-le}
+use Rattle.std.proofs.lemmas.List.{length-append, length-map, length-take-le}
 use Rattle.std.proofs.lemmas.List.Elements.{All-nil, All-cons, All-head, All-tail, All-append, All-take}
 use Rattle.std.proofs.lemmas.Int.{ints, unsigned_abs-mul}
 use Rattle.ct_vectors.specs.declared.limits.TheConstants.{COLUMN_LIMIT, COST_ROW_LIMIT, COST_LIMIT, RIGHT_LIMIT, MOVE_LIMIT, GRADE_LIMIT, JOB_GRADE_LIMIT, SESSION_LIMIT}
@@ -29,7 +29,7 @@ use Rattle.ct_input.specs.declared.script.Request.{Request}
 use Rattle.ct_input.specs.declared.script.Request.TheVariants.{Ask, Solve}
 use Rattle.ct_input.specs.declared.script.Phase.{Phase}
 use Rattle.ct_input.specs.declared.script.Script.{Script}
-use Rattle.ct_input.specs.Script.{IsRequest, IsPhase as IsScriptPhase, IsScript}
+use Rattle.ct_input.specs.Script.{right_of, IsRequest, IsPhase as IsScriptPhase, IsScript}
 use Rattle.ct_version.specs.declared.answers.Answer.{Answer}
 use Rattle.ct_version.specs.declared.answers.Answer.TheVariants.{Optimum, Infeasible}
 use Rattle.ct_version.specs.declared.finished.Finished.{Finished}
@@ -47,7 +47,10 @@ use Rattle.ct_legal.specs.Cases.{Case, plain_case}
 use Rattle.ct_legal.specs.Scripts.{phase_with_solves, with_solves, solved_sum, greatest, grade_after}
 use Rattle.ct_legal.specs.Legal.{IsAsked, AreLegalLines, AreLegalSessions, IsLevelShown, AreLegalPhases, IsLegalServed, IsLegalAnswered}
 use Rattle.ct_legal.proofs.Scripts.{solves_are_script}
-use Rattle.ct_run.specs.Laws.{IsReadAs}
+use Rattle.ct_form.specs.Forms.{Form, given_in}
+use Rattle.ct_form.specs.EqualityForms.{equal_of, right_for, cut_to, IsForm}
+use Rattle.ct_form_report.specs.FormCases.{form_case}
+use Rattle.ct_run.specs.Laws.{IsReadAs, CanBeTold}
 
 -- ---- costs
 
@@ -130,10 +133,8 @@ record ArePhases (phases : List Phase) (told : List PhaseReport) : Type 0 where
   count : length told ≡ length phases
   each : All IsPhase told
 
-module _ (i : Problem) (inst : IsInstance i) (limit : ℕ) (most : limit ≤ MOVE_LIMIT) (walks levels : Bool) where
-  abbrev case : Case
-  case = plain_case i limit walks levels
-
+module _ (i : Problem) (inst : IsInstance i) where
+  -- what is told of a right-hand side within the limit is within the limits of reading
   outcome_fits : (b : List ℕ) → IsRight i b → All (λ x. x ≤ RIGHT_LIMIT) b → Fits (answer_of i b)
   outcome_fits b right small =
       let n : ℕ = column_count i in
@@ -155,6 +156,61 @@ module _ (i : Problem) (inst : IsInstance i) (limit : ℕ) (most : limit ≤ MOV
       ) in
       either_fits (nat_eq (art_total_of n p) 0) (optimum (take n p) (costs_of i (take n p))) (infeasible (art_total_of n p)) first (λ e. (positive (art_total_of n p) e, back))
 
+-- ---- cases
+
+pub plain_can_be_told : (i : Problem) → IsInstance i → (limit : ℕ) → limit ≤ MOVE_LIMIT → (walks levels : Bool) → CanBeTold i.rows (plain_case i limit walks levels)
+plain_can_be_told i inst limit most walks levels = record {
+  instance = inst;
+  limit = most;
+  right = λ b asked. asked;
+  shown = λ b asked answer is. answer_fits answer (subst Fits (sym is) (outcome_fits i inst b asked.right asked.limit));
+}
+
+cut_fits : (n : ℕ) → 1 ≤ n → (o : Outcome) → Fits o → Fits (cut_to n o)
+cut_fits n some (optimum x costs) h = (
+  h.0,
+  h.1,
+  h.2,
+  omega (arith, some, h.3, length-take n x),
+  omega (arith, h.4, length-take n x),
+  All-take (λ a. a ≤ GRADE_LIMIT) n x h.5,
+)
+cut_fits n some (infeasible short) h = h
+
+wide_right : (f : Form) → IsForm f → (b : List ℕ) → IsRequest f.rows (Solve b) → IsRequest (equal_of f).rows (Solve (right_for f b))
+wide_right f form b asked = record {
+  right = length-append b (given_in f.bounds) ∙ ap (λ k. k + length (given_in f.bounds)) asked.right;
+  limit = All-append (λ x. x ≤ RIGHT_LIMIT) b (given_in f.bounds) asked.limit form.bound_limit;
+}
+
+pub form_can_be_told : (f : Form) → IsForm f → (limit : ℕ) → limit ≤ MOVE_LIMIT → (walks levels : Bool) (opened : ℕ) → CanBeTold f.rows (form_case f limit walks levels opened)
+form_can_be_told f form limit most walks levels opened = record {
+  instance = form.equal;
+  limit = most;
+  right = wide_right f form;
+  shown = λ b asked answer is.
+      let wide = wide_right f form b asked in
+      answer_fits answer (subst Fits (sym is) (cut_fits (length f.columns) form.some_column (answer_of (equal_of f) (right_for f b)) (outcome_fits (equal_of f) form.equal (right_for f b) wide.right wide.limit)));
+}
+
+-- ---- reports
+
+numbers_of : (m : ℕ) (request : Request) → IsRequest m request → IsRequest m (Solve (right_of request))
+numbers_of m request is = record { right = is.right; limit = is.limit }
+
+module _ (m : ℕ) (c : Case) (can : CanBeTold m c) where
+  abbrev i : Problem
+  i = c.instance
+
+  inst : IsInstance i
+  inst = can.instance
+
+  abbrev limit : ℕ
+  limit = c.limit
+
+  sum-limit : (b : List ℕ) → IsRequest m (Solve b) → total (c.right b) ≤ GRADE_LIMIT
+  sum-limit b asked = right-total i inst (c.right b) (can.right b asked).right (can.right b asked).limit
+
   -- ---- walks
 
   list_within : (g : ℕ) → g ≤ GRADE_LIMIT → length (test_list i g) ≤ limit → IsMoveList (record { instance = i; moves = test_list i g })
@@ -166,7 +222,7 @@ module _ (i : Problem) (inst : IsInstance i) (limit : ℕ) (most : limit ≤ MOV
           move = test_list_moves i g (test_list i g) is k d within;
           grade = omega (arith, (is.sound k d within).1, small);
         };
-        most = omega (arith, few, most);
+        most = omega (arith, few, can.limit);
       }
 
   walk_shown : (wanted : Bool) (b : List ℕ) → IsRight i b → All (λ x. x ≤ RIGHT_LIMIT) b → length (test_list i (total b)) ≤ limit → (walk : Option (List (ℕ × ℕ))) → IsWalkShown i wanted b walk → HasWalk walk
@@ -179,44 +235,46 @@ module _ (i : Problem) (inst : IsInstance i) (limit : ℕ) (most : limit ≤ MOV
 
   -- ---- lines
 
-  answered_line : (b : List ℕ) → IsRight i b → All (λ x. x ≤ RIGHT_LIMIT) b → full_grade_up_to i limit (total b) ≡ None → (line : Line) → IsAnsweredLine i walks (answer_of i b) b line → IsLine line
-  answered_line b right small room (Answered answer walk) is =
-      (answer_fits answer (subst Fits (sym is.0) (outcome_fits b right small)), walk_shown walks b right small ((full_none i limit (total b)).0 room) walk is.1)
-  answered_line b right small room (NotYet finished) is = absurd is
-  answered_line b right small room (Full grade) is = absurd is
+  answered_line : (b : List ℕ) → IsRequest m (Solve b) → full_grade_up_to i limit (total (c.right b)) ≡ None → (line : Line) → IsAnsweredLine i c.walks (c.shown b) (c.right b) line → IsLine line
+  answered_line b asked room (Answered answer walk) is =
+      let wide = can.right b asked in
+      (can.shown b asked answer is.0, walk_shown c.walks (c.right b) wide.right wide.limit ((full_none i limit (total (c.right b))).0 room) walk is.1)
+  answered_line b asked room (NotYet finished) is = absurd is
+  answered_line b asked room (Full grade) is = absurd is
 
-  solved_line : (b : List ℕ) → IsRight i b → All (λ x. x ≤ RIGHT_LIMIT) b → (o : Option ℕ) → full_grade_up_to i limit (total b) ≡ o → (line : Line) → IsFullOrAnswered o i walks (answer_of i b) b line → IsLine line
-  solved_line b right small None at line is = answered_line b right small at line is
-  solved_line b right small (Some f) at line is =
-      let full = (full_some i limit (total b) f).0 at in
+  solved_line : (b : List ℕ) → IsRequest m (Solve b) → (o : Option ℕ) → full_grade_up_to i limit (total (c.right b)) ≡ o → (line : Line) →
+      IsFullOrAnswered o i c.walks (c.shown b) (c.right b) line → IsLine line
+  solved_line b asked None at line is = answered_line b asked at line is
+  solved_line b asked (Some f) at line is =
+      let full = (full_some i limit (total (c.right b)) f).0 at in
       let some : 1 ≤ f = ((full_is_opened i inst limit f full.0).1).some in
-      let within : IsLine (Full f) = (some, omega (arith, full.1, right-total i inst b right small)) in
+      let within : IsLine (Full f) = (some, omega (arith, full.1, sum-limit b asked)) in
       subst IsLine (sym is) within
 
-  asked_line : (floor low : ℕ) (b : List ℕ) → IsRight i b → All (λ x. x ≤ RIGHT_LIMIT) b → (line : Line) → IsAsked case floor low b line → IsLine line
-  asked_line floor low b right small (Answered answer walk) is = answered_line b right small is.0 (Answered answer walk) is.1
-  asked_line floor low b right small (NotYet finished) is = let below : finished < total b = is.below in omega (arith, below, right-total i inst b right small)
-  asked_line floor low b right small (Full grade) is = absurd is
+  asked_line : (floor low : ℕ) (b : List ℕ) → IsRequest m (Solve b) → (line : Line) → IsAsked c floor low b line → IsLine line
+  asked_line floor low b asked (Answered answer walk) is = answered_line b asked is.0 (Answered answer walk) is.1
+  asked_line floor low b asked (NotYet finished) is = let below : finished < total (c.right b) = is.below in omega (arith, below, sum-limit b asked)
+  asked_line floor low b asked (Full grade) is = absurd is
 
-  lines_within : (rs : List Request) (lines : List Line) (floor low : ℕ) → All (IsRequest i.rows) rs → AreLegalLines case floor low rs lines → All IsLine lines
+  lines_within : (rs : List Request) (lines : List Line) (floor low : ℕ) → All (IsRequest m) rs → AreLegalLines c floor low rs lines → All IsLine lines
   lines_within [] [] floor low are legal = All-nil IsLine
   lines_within [] (line ∷ lines) floor low are legal = absurd legal
   lines_within (Ask b ∷ rs) [] floor low are legal = absurd legal
   lines_within (Solve b ∷ rs) [] floor low are legal = absurd legal
   lines_within (Ask b ∷ rs) (line ∷ lines) floor low are legal =
-      let first : IsRequest i.rows (Ask b) = All-head (IsRequest i.rows) (Ask b) rs are in
-      All-cons IsLine line lines (asked_line floor low b first.right first.limit line legal.0) (lines_within rs lines _ _ (All-tail (IsRequest i.rows) (Ask b) rs are) legal.1)
+      let asked = numbers_of m (Ask b) (All-head (IsRequest m) (Ask b) rs are) in
+      All-cons IsLine line lines (asked_line floor low b asked line legal.0) (lines_within rs lines _ _ (All-tail (IsRequest m) (Ask b) rs are) legal.1)
   lines_within (Solve b ∷ rs) (line ∷ lines) floor low are legal =
-      let first : IsRequest i.rows (Solve b) = All-head (IsRequest i.rows) (Solve b) rs are in
-      All-cons IsLine line lines (solved_line b first.right first.limit (full_grade_up_to i limit (total b)) refl line legal.0)
-      (lines_within rs lines _ _ (All-tail (IsRequest i.rows) (Solve b) rs are) legal.1)
+      let asked = All-head (IsRequest m) (Solve b) rs are in
+      All-cons IsLine line lines (solved_line b asked (full_grade_up_to i limit (total (c.right b))) refl line legal.0)
+      (lines_within rs lines _ _ (All-tail (IsRequest m) (Solve b) rs are) legal.1)
 
-  sessions_within : (sessions : List (List Request)) (told : List (List Line)) (floor : ℕ) → All (λ rs. All (IsRequest i.rows) rs) sessions → AreLegalSessions case floor sessions told → AreWithin sessions told
+  sessions_within : (sessions : List (List Request)) (told : List (List Line)) (floor : ℕ) → All (λ rs. All (IsRequest m) rs) sessions → AreLegalSessions c floor sessions told → AreWithin sessions told
   sessions_within [] [] floor are legal = record { count = refl; lines = All-nil (All IsLine) }
   sessions_within [] (lines ∷ told) floor are legal = absurd legal
   sessions_within (rs ∷ sessions) [] floor are legal = absurd legal
   sessions_within (rs ∷ sessions) (lines ∷ told) floor are legal =
-      let every : List Request → Type 0 = λ qs. All (IsRequest i.rows) qs in
+      let every : List Request → Type 0 = λ qs. All (IsRequest m) qs in
       let rest = sessions_within sessions told floor (All-tail every rs sessions are) legal.1 in
       record {
         count = ap suc rest.count;
@@ -225,24 +283,24 @@ module _ (i : Problem) (inst : IsInstance i) (limit : ℕ) (most : limit ≤ MOV
 
   -- ---- levels
 
-  solved_sums : (rs : List Request) → All (IsRequest i.rows) rs → All (λ x. x ≤ GRADE_LIMIT) (map (solved_sum case) rs)
+  solved_sums : (rs : List Request) → All (IsRequest m) rs → All (λ x. x ≤ GRADE_LIMIT) (map (solved_sum c) rs)
   solved_sums [] are = All-nil (λ x. x ≤ GRADE_LIMIT)
   solved_sums (Ask b ∷ rs) are =
-      All-cons (λ x. x ≤ GRADE_LIMIT) 0 (map (solved_sum case) rs) (omega arith) (solved_sums rs (All-tail (IsRequest i.rows) (Ask b) rs are))
+      All-cons (λ x. x ≤ GRADE_LIMIT) 0 (map (solved_sum c) rs) (omega arith) (solved_sums rs (All-tail (IsRequest m) (Ask b) rs are))
   solved_sums (Solve b ∷ rs) are =
-      let first : IsRequest i.rows (Solve b) = All-head (IsRequest i.rows) (Solve b) rs are in
-      All-cons (λ x. x ≤ GRADE_LIMIT) (total b) (map (solved_sum case) rs) (right-total i inst b first.right first.limit) (solved_sums rs (All-tail (IsRequest i.rows) (Solve b) rs are))
+      let asked = All-head (IsRequest m) (Solve b) rs are in
+      All-cons (λ x. x ≤ GRADE_LIMIT) (total (c.right b)) (map (solved_sum c) rs) (sum-limit b asked) (solved_sums rs (All-tail (IsRequest m) (Solve b) rs are))
 
-  all_sums : (sessions : List (List Request)) → All (λ rs. All (IsRequest i.rows) rs) sessions → All (λ x. x ≤ GRADE_LIMIT) (flat_map (λ rs. map (solved_sum case) rs) sessions)
+  all_sums : (sessions : List (List Request)) → All (λ rs. All (IsRequest m) rs) sessions → All (λ x. x ≤ GRADE_LIMIT) (flat_map (λ rs. map (solved_sum c) rs) sessions)
   all_sums [] are = All-nil (λ x. x ≤ GRADE_LIMIT)
   all_sums (rs ∷ sessions) are =
-      let every : List Request → Type 0 = λ qs. All (IsRequest i.rows) qs in
-      All-append (λ x. x ≤ GRADE_LIMIT) (map (solved_sum case) rs) (flat_map (λ qs. map (solved_sum case) qs) sessions)
+      let every : List Request → Type 0 = λ qs. All (IsRequest m) qs in
+      All-append (λ x. x ≤ GRADE_LIMIT) (map (solved_sum c) rs) (flat_map (λ qs. map (solved_sum c) qs) sessions)
       (solved_sums rs (All-head every rs sessions are)) (all_sums sessions (All-tail every rs sessions are))
 
-  grade-limit : (grade : ℕ) (phase : Phase) → grade ≤ GRADE_LIMIT → IsScriptPhase i.rows phase → grade_after case grade phase ≤ GRADE_LIMIT
+  grade-limit : (grade : ℕ) (phase : Phase) → grade ≤ GRADE_LIMIT → IsScriptPhase m phase → grade_after c grade phase ≤ GRADE_LIMIT
   grade-limit grade phase small is =
-      let sums : greatest (flat_map (λ rs. map (solved_sum case) rs) phase.sessions) ≤ GRADE_LIMIT = greatest-limit (flat_map (λ rs. map (solved_sum case) rs) phase.sessions) (all_sums phase.sessions is.sessions) in
+      let sums : greatest (flat_map (λ rs. map (solved_sum c) rs) phase.sessions) ≤ GRADE_LIMIT = greatest-limit (flat_map (λ rs. map (solved_sum c) rs) phase.sessions) (all_sums phase.sessions is.sessions) in
       omega (arith, is.target)
 
   reach-limit : (g l : ℕ) → g ≤ GRADE_LIMIT → (o : Option ℕ) → full_grade_up_to i limit g ≡ o → reach_of i limit g ≡ upto l → l ≤ JOB_GRADE_LIMIT
@@ -266,33 +324,33 @@ module _ (i : Problem) (inst : IsInstance i) (limit : ℕ) (most : limit ≤ MOV
 
   -- ---- phases
 
-  phases_within : (phases : List Phase) (told : List PhaseReport) (grade : ℕ) → grade ≤ GRADE_LIMIT → All (IsScriptPhase i.rows) phases → AreLegalPhases case grade phases told → ArePhases phases told
+  phases_within : (phases : List Phase) (told : List PhaseReport) (grade : ℕ) → grade ≤ GRADE_LIMIT → All (IsScriptPhase m) phases → AreLegalPhases c grade phases told → ArePhases phases told
   phases_within [] [] grade small are legal = record { count = refl; each = All-nil IsPhase }
   phases_within [] (one ∷ told) grade small are legal = absurd legal
   phases_within (phase ∷ phases) [] grade small are legal = absurd legal
   phases_within (phase ∷ phases) (one ∷ told) grade small are legal =
-      let first : IsScriptPhase i.rows phase = All-head (IsScriptPhase i.rows) phase phases are in
-      let next : grade_after case grade phase ≤ GRADE_LIMIT = grade-limit grade phase small first in
+      let first : IsScriptPhase m phase = All-head (IsScriptPhase m) phase phases are in
+      let next : grade_after c grade phase ≤ GRADE_LIMIT = grade-limit grade phase small first in
       let sessions = sessions_within phase.sessions one.sessions _ first.sessions legal.0 in
-      let rest = phases_within phases told (grade_after case grade phase) next (All-tail (IsScriptPhase i.rows) phase phases are) legal.2 in
+      let rest = phases_within phases told (grade_after c grade phase) next (All-tail (IsScriptPhase m) phase phases are) legal.2 in
       let here : IsPhase one = record {
         count = omega (arith, sessions.count, first.few);
         sessions = sessions.lines;
-        level = level_within levels (grade_after case grade phase) next one.level legal.1;
+        level = level_within c.levels (grade_after c grade phase) next one.level legal.1;
       } in
       record { count = ap suc rest.count; each = All-cons IsPhase one told here rest.each }
 
-  legal_is_report : (script : Script) (report : Report) → IsScript i.rows script → IsCount (length script.phases) → IsLegalServed case script report → IsReport report
+  legal_is_report : (script : Script) (report : Report) → IsScript m script → IsCount (length script.phases) → IsLegalServed c script report → IsReport report
   legal_is_report script report is count legal =
       let told = phases_within script.phases report.phases 0 (omega arith) is legal in
       record { count = subst IsCount (sym told.count) count; phases = told.each }
 
   -- no other report has its text
-  pub served_is_read : (script : Script) (report : Report) → IsScript i.rows script → IsCount (length script.phases) → IsLegalServed case script report → IsReadAs report
-  served_is_read script report is count legal =
+  pub served_is_read : (script : Script) → IsScript m script → IsCount (length script.phases) → (report : Report) → IsLegalServed c script report → IsReadAs report
+  served_is_read script is count report legal =
       let within = legal_is_report script report is count legal in
       record { within = within; only = λ other there same. one_report other report there within same }
 
-  pub answered_is_read : (script : Script) (report : Report) → IsScript i.rows script → IsCount (length script.phases) → IsLegalAnswered case script report → IsReadAs report
-  answered_is_read script report is count legal =
-      served_is_read (with_solves script) report (solves_are_script i.rows script is) (subst IsCount (sym (length-map script.phases phase_with_solves)) count) legal
+  pub answered_is_read : (script : Script) → IsScript m script → IsCount (length script.phases) → (report : Report) → IsLegalAnswered c script report → IsReadAs report
+  answered_is_read script is count report legal =
+      served_is_read (with_solves script) (solves_are_script m script is) (subst IsCount (sym (length-map script.phases phase_with_solves)) count) report legal

@@ -6,20 +6,21 @@ use Rattle.ct_input.specs.declared.limits.TheConstants.{INSTANCE_FILE_LIMIT, SES
 use Rattle.ct_input.specs.declared.fault.Fault.{Fault}
 use Rattle.ct_input.specs.declared.fault.Fault.TheVariants.{TooLong}
 use Rattle.ct_input.specs.Files as texts
+use Rattle.ct_form_text.specs.Files as form_texts
 use Rattle.ct_json.specs.Values.{is_json}
 use Rattle.ct_json.specs.Files.{instance_json, sessions_json}
-use Rattle.ct_run.specs.Forms.{instance_file, session_file}
+use Rattle.ct_run.specs.Forms.{form_json, form_file, session_file}
 
--- the same in either form
+-- the same by either reader
 either : {A : Type 0} (test : Bool) (first second value : A) → first ≡ value → second ≡ value → (if test then first else second) ≡ value
 either true first second value is same = is
 either false first second value is same = same
 
-instance-too_long : (bytes : List ℕ) → INSTANCE_FILE_LIMIT < length bytes → instance_file bytes ≡ Err TooLong
-unfolding instance_file instance_json texts.instance_file
-instance-too_long bytes long =
+form-too_long : (bytes : List ℕ) → INSTANCE_FILE_LIMIT < length bytes → form_file bytes ≡ Err TooLong
+unfolding form_file instance_json form_texts.form_file
+form-too_long bytes long =
     let over = lt-ltb INSTANCE_FILE_LIMIT (length bytes) long in
-    either (is_json bytes) (instance_json bytes) (texts.instance_file bytes) (Err TooLong) (rw over refl) (rw over refl)
+    either (is_json bytes) (form_json bytes) (form_texts.form_file bytes) (Err TooLong) (rw over refl) (rw over refl)
 
 sessions-too_long : (m : ℕ) (bytes : List ℕ) → SESSION_FILE_LIMIT < length bytes → session_file m bytes ≡ Err TooLong
 unfolding session_file sessions_json texts.session_file
@@ -36,8 +37,8 @@ front_tells value_of limit long bytes =
     (λ within. ap value_of (take_all (limit + 1) bytes (omega arith)))
     (cases_lt limit (length bytes))
 
-pub instance-front : (bytes : List ℕ) → instance_file (take (INSTANCE_FILE_LIMIT + 1) bytes) ≡ instance_file bytes
-instance-front = front_tells instance_file INSTANCE_FILE_LIMIT instance-too_long
+pub form-front : (bytes : List ℕ) → form_file (take (INSTANCE_FILE_LIMIT + 1) bytes) ≡ form_file bytes
+form-front = front_tells form_file INSTANCE_FILE_LIMIT form-too_long
 
 pub sessions-front : (m : ℕ) (bytes : List ℕ) → session_file m (take (SESSION_FILE_LIMIT + 1) bytes) ≡ session_file m bytes
 sessions-front m = front_tells (session_file m) SESSION_FILE_LIMIT (sessions-too_long m)

@@ -2,6 +2,8 @@
 use Rattle.std.proofs.Common.{pos, negsuc, ◌≡◌, ℕ, ◌*◌, nat_lt, cond, length, Bool, true, false, List, ◌++◌, [], ◌∷◌, Option, None, Some, Result, Ok, Err, refl, codes}
 use Rattle.std.specs.Fmt.{digits}
 use Rattle.ct_instance.specs.Instance.{Problem}
+use Rattle.ct_form.specs.Forms.{Form}
+use Rattle.ct_form.specs.EqualityForms.{equal_of}
 use Rattle.ct_input.specs.declared.fault.Fault.TheVariants.{TooLong, Text}
 use Rattle.ct_input.specs.declared.fault.TextReason.TheVariants.{ZeroColumn}
 use Rattle.ct_input.specs.declared.script.Script.{Script}
@@ -9,7 +11,7 @@ use Rattle.ct_legal.specs.Cases.{Case}
 use Rattle.ct_run.specs.Texts.{newline}
 use Rattle.ct_outside.specs.Shelf.{Told, untold, absent, holds}
 use Rattle.ct_input.specs.declared.fault.Fault.{Fault}
-use Rattle.ct_run.specs.Forms.{instance_file, session_file}
+use Rattle.ct_run.specs.Forms.{form_file, session_file}
 use Rattle.ct_run.specs.declared.status.Status.TheVariants.{Done, Usage, BadInstance, BadSessions, BadLedger, LedgerRefused, Full, TooMany}
 use Rattle.ct_text.specs.Numbers.{natural_of}
 use Rattle.ct_words.specs.Parts.{parts_of}
@@ -93,26 +95,26 @@ no_usage_of_ledger i bytes text (over long own same) = let no : Usage ≡ BadLed
 no_usage_of_ledger i bytes text (faulty line within fault own same) = let no : Usage ≡ BadLedger = own in cc
 no_usage_of_ledger i bytes text (weighed l within is same verdict) = no_usage_of_verdict (verdict_of i l) i l text verdict
 
-no_usage_of_listing : (read : Result Script Fault) (c : Case) (count : ℕ) (told : List ℕ → Told) (old new : Option (List ℕ)) →
-    Ends (by_value bad_sessions (λ script. ends (listed_or_too_many c count script)) read) told (Wrote Usage old new) → ⊥
-no_usage_of_listing (Ok script) c count told old new wrote = by_count (nat_lt 10000 (length (rights_in script) * count)) wrote
+no_usage_of_listing : (read : Result Script Fault) (c : Case) (n count : ℕ) (told : List ℕ → Told) (old new : Option (List ℕ)) →
+    Ends (by_value bad_sessions (λ script. ends (listed_or_too_many c n count script)) read) told (Wrote Usage old new) → ⊥
+no_usage_of_listing (Ok script) c n count told old new wrote = by_count (nat_lt 10000 (length (rights_in script) * count)) wrote
   where
-    by_count : (b : Bool) → Ends (ends (cond b (too_many (length (rights_in script))) (listed c count script))) told (Wrote Usage old new) → ⊥
+    by_count : (b : Bool) → Ends (ends (cond b (too_many (length (rights_in script))) (listed c n count script))) told (Wrote Usage old new) → ⊥
     by_count true wrote = let no : Usage ≡ TooMany = wrote.1.0.0 in cc
     by_count false wrote = let no : Usage ≡ Done = wrote.1.0.0 in cc
-no_usage_of_listing (Err fault) c count told old new wrote = let no : Usage ≡ BadSessions = wrote.1.0.0 in cc
+no_usage_of_listing (Err fault) c n count told old new wrote = let no : Usage ≡ BadSessions = wrote.1.0.0 in cc
 
-no_usage_by_work : (work : Work) (i : Problem) (told : List ℕ → Told) (old new : Option (List ℕ)) → Ends (work_plan work i) told (Wrote Usage old new) → ⊥
-no_usage_by_work (answer sessions walks levels moves) i told old new wrote =
-    of_bytes (told sessions) _ ⊥ (λ bytes. no_usage_by_sessions (session_file i.rows bytes) (case_of (record { limit = moves; walks = walks; levels = levels }) i) told old new) wrote
-no_usage_by_work (best sessions count moves) i told old new wrote =
-    of_bytes (told sessions) _ ⊥ (λ bytes. no_usage_of_listing (session_file i.rows bytes) (case_of (record { limit = moves; walks = false; levels = false }) i) count told old new) wrote
-no_usage_by_work (certify grade moves) i told old new wrote = no_usage_of_grade (full_grade_up_to i moves grade) i grade old new wrote
-no_usage_by_work (check ledger) i told old new wrote = of_bytes (told ledger) _ ⊥ (λ bytes w. no_usage_of_ledger i bytes w.0 w.1.0) wrote
+no_usage_by_work : (work : Work) (f : Form) (told : List ℕ → Told) (old new : Option (List ℕ)) → Ends (work_plan work f) told (Wrote Usage old new) → ⊥
+no_usage_by_work (answer sessions walks levels moves) f told old new wrote =
+    of_bytes (told sessions) _ ⊥ (λ bytes. no_usage_by_sessions (session_file f.rows bytes) (case_of (record { limit = moves; walks = walks; levels = levels }) f) told old new) wrote
+no_usage_by_work (best sessions count moves) f told old new wrote =
+    of_bytes (told sessions) _ ⊥ (λ bytes. no_usage_of_listing (session_file f.rows bytes) (case_of (record { limit = moves; walks = false; levels = false }) f) (length f.columns) count told old new) wrote
+no_usage_by_work (certify grade moves) f told old new wrote = no_usage_of_grade (full_grade_up_to (equal_of f) moves grade) (equal_of f) grade old new wrote
+no_usage_by_work (check ledger) f told old new wrote = of_bytes (told ledger) _ ⊥ (λ bytes w. no_usage_of_ledger (equal_of f) bytes w.0 w.1.0) wrote
 
-no_usage : (read : Result Problem Fault) (work : Work) (told : List ℕ → Told) (old new : Option (List ℕ)) →
+no_usage : (read : Result Form Fault) (work : Work) (told : List ℕ → Told) (old new : Option (List ℕ)) →
     Ends (by_value bad_instance (work_plan work) read) told (Wrote Usage old new) → ⊥
-no_usage (Ok i) work told old new wrote = no_usage_by_work work i told old new wrote
+no_usage (Ok f) work told old new wrote = no_usage_by_work work f told old new wrote
 no_usage (Err fault) work told old new wrote = let no : Usage ≡ BadInstance = wrote.1.0.0 in cc
 
 no_usage_served : (read : Result Script Fault) (c : Case) (told : List ℕ → Told) (old new : Option (List ℕ)) →
@@ -120,16 +122,16 @@ no_usage_served : (read : Result Script Fault) (c : Case) (told : List ℕ → T
 no_usage_served (Ok script) c told old new wrote = let no : Usage ≡ Done = wrote.1.0.0 in cc
 no_usage_served (Err fault) c told old new wrote = let no : Usage ≡ BadSessions = wrote.1.0.0 in cc
 
-no_usage_by_serving : (read : Result Problem Fault) (options : Options) (sessions : List ℕ) (told : List ℕ → Told) (old new : Option (List ℕ)) →
-    Ends (by_value bad_instance (λ i. serve_plan sessions (case_of options i)) read) told (Wrote Usage old new) → ⊥
-no_usage_by_serving (Ok i) options sessions told old new wrote =
-    of_bytes (told sessions) _ ⊥ (λ bytes. no_usage_served (session_file i.rows bytes) (case_of options i) told old new) wrote
+no_usage_by_serving : (read : Result Form Fault) (options : Options) (sessions : List ℕ) (told : List ℕ → Told) (old new : Option (List ℕ)) →
+    Ends (by_value bad_instance (serve_plan sessions options) read) told (Wrote Usage old new) → ⊥
+no_usage_by_serving (Ok f) options sessions told old new wrote =
+    of_bytes (told sessions) _ ⊥ (λ bytes. no_usage_served (session_file f.rows bytes) (case_of options f) told old new) wrote
 no_usage_by_serving (Err fault) options sessions told old new wrote = let no : Usage ≡ BadInstance = wrote.1.0.0 in cc
 
 usage_only : (command : Option Command) (told : List ℕ → Told) (old new : Option (List ℕ)) → Ends (plan_of command) told (Wrote Usage old new) → command ≡ None
 usage_only None told old new wrote = refl
 usage_only (Some (on instance work)) told old new wrote =
-    absurd (of_bytes (told instance) _ ⊥ (λ bytes. no_usage (instance_file bytes) work told old new) wrote)
+    absurd (of_bytes (told instance) _ ⊥ (λ bytes. no_usage (form_file bytes) work told old new) wrote)
 usage_only (Some (make number)) told old new wrote = let no : Usage ≡ Done = wrote.1.0.0 in absurd (cc)
 usage_only (Some (serve instance sessions workers walks levels moves)) told old new wrote =
-    absurd (of_bytes (told instance) _ ⊥ (λ bytes. no_usage_by_serving (instance_file bytes) (record { limit = moves; walks = walks; levels = levels }) sessions told old new) wrote)
+    absurd (of_bytes (told instance) _ ⊥ (λ bytes. no_usage_by_serving (form_file bytes) (record { limit = moves; walks = walks; levels = levels }) sessions told old new) wrote)

@@ -6,13 +6,19 @@ use Rattle.ct_instance.specs.Versions.{IsFullGrade}
 use Rattle.ct_instance.specs.Reach.{full_grade_up_to}
 use Rattle.ct_vectors.specs.declared.limits.TheConstants.{MOVE_LIMIT}
 use Rattle.ct_input.specs.declared.script.Script.{Script}
-use Rattle.ct_input.specs.Script.{IsScript}
+use Rattle.ct_input.specs.declared.script.Request.TheVariants.{Solve}
+use Rattle.ct_input.specs.Script.{IsRequest, IsScript}
 use Rattle.ct_input.specs.Cut.{IsCutBefore}
 use Rattle.ct_json.specs.Values.{is_json}
 use Rattle.ct_report.specs.declared.reports.Report.{Report}
 use Rattle.ct_report.specs.ReportText.{report_text}
-use Rattle.ct_report.specs.Limits.{IsCount, IsReport}
+use Rattle.ct_report.specs.Limits.{IsAnswer, IsCount, IsReport}
 use Rattle.ct_legal.specs.Cases.{Case, plain_case}
+use Rattle.ct_form.specs.Forms.{Form}
+use Rattle.ct_form.specs.EqualityForms.{IsForm, plain_form}
+use Rattle.ct_form_report.specs.FormCases.{form_case}
+use Rattle.ct_version.specs.declared.answers.Answer.{Answer}
+use Rattle.ct_version.specs.Answers.{outcome_seen}
 use Rattle.ct_legal.specs.Legal.{IsLegalServed, IsLegalAnswered}
 use Rattle.ct_legal.specs.Scripts.{HasNoAsks}
 use Rattle.ct_ledger.specs.Parts.{LedgerParts, IsLedger}
@@ -23,7 +29,7 @@ use Rattle.ct_words.specs.Said.{said_of}
 use Rattle.ct_run.specs.declared.status.Status.{Status}
 use Rattle.ct_run.specs.declared.status.Status.TheVariants.{BadLedger}
 use Rattle.ct_run.specs.Words.{command_of}
-use Rattle.ct_run.specs.Forms.{instance_file, session_file}
+use Rattle.ct_run.specs.Forms.{form_file, session_file}
 use Rattle.ct_run.specs.Checked.{IsVerdictEnding, IsChecked}
 use Rattle.ct_run.specs.Outcome.{full, IsReportOf, IsServedReportOf}
 use Rattle.ct_run.specs.Plan.{ledger_or_full}
@@ -49,9 +55,10 @@ NoCommandByTable = (words : List (List ℕ)) → (command_of words ≡ None) ↔
 
 -- ---- files that were cut short
 
--- The front of an instance text that ends before the last byte of its last token is refused, whichever form it is read in.
+-- The front of an instance text of either form that ends before the last byte of its last token is refused, and isn't read as
+-- JSON either.
 abbrev pub CutInstanceTextHasFault : Type 0
-CutInstanceTextHasFault = (front more : List ℕ) → is_json (front ++ more) ≡ false → IsOk (instance_file (front ++ more)) → IsCutBefore front more → IsErr (instance_file front)
+CutInstanceTextHasFault = (front more : List ℕ) → is_json (front ++ more) ≡ false → IsOk (form_file (front ++ more)) → IsCutBefore front more → IsErr (form_file front)
 
 -- and so is that of a session text
 abbrev pub CutSessionTextHasFault : Type 0
@@ -68,6 +75,12 @@ ServedAsAnswered = (c : Case) (script : Script) → HasNoAsks script → (text o
 abbrev pub ServedOneWay : Type 0
 ServedOneWay = (c : Case) (script : Script) → HasNoAsks script → (text other : List ℕ) → IsServedReportOf c script text → IsServedReportOf c script other → text ≡ other
 
+-- ---- forms
+
+-- a run of the form of an instance is a run of that instance
+abbrev pub PlainFormRunsAsInstance : Type 0
+PlainFormRunsAsInstance = (i : Problem) → IsInstance i → (limit : ℕ) (walks levels : Bool) → form_case (plain_form i) limit walks levels 0 ≡ plain_case i limit walks levels
+
 -- ---- reports
 
 -- it is within the limits of reading, and no other report within them has its text
@@ -75,14 +88,30 @@ pub record IsReadAs (report : Report) : Type 0 where
   pub within : IsReport report
   pub only : (other : Report) → IsReport other → report_text other ≡ report_text report → other ≡ report
 
--- so is each report that is legal where asks may be answered or not yet
+-- the instance has a right-hand side within the limit for m numbers within it, and an answer that shows what is told of them
+-- is within the limits of reading
+pub record CanBeTold (m : ℕ) (c : Case) : Type 0 where
+  pub instance : IsInstance c.instance
+  pub limit : c.limit ≤ MOVE_LIMIT
+  pub right : (b : List ℕ) → IsRequest m (Solve b) → IsRequest (c.instance).rows (Solve (c.right b))
+  pub shown : (b : List ℕ) → IsRequest m (Solve b) → (answer : Answer) → outcome_seen answer ≡ c.shown b → IsAnswer answer
+
+-- so it is of an instance
+abbrev pub PlainCanBeTold : Type 0
+PlainCanBeTold = (i : Problem) → IsInstance i → (limit : ℕ) → limit ≤ MOVE_LIMIT → (walks levels : Bool) → CanBeTold i.rows (plain_case i limit walks levels)
+
+-- and of a form
+abbrev pub FormCanBeTold : Type 0
+FormCanBeTold = (f : Form) → IsForm f → (limit : ℕ) → limit ≤ MOVE_LIMIT → (walks levels : Bool) (opened : ℕ) → CanBeTold f.rows (form_case f limit walks levels opened)
+
+-- then a report is read that is legal where asks may be answered or not yet
 abbrev pub ServedIsRead : Type 0
 ServedIsRead =
-    (i : Problem) → IsInstance i → (limit : ℕ) → limit ≤ MOVE_LIMIT → (walks levels : Bool) (script : Script) → IsScript i.rows script → IsCount (length script.phases) →
-    (report : Report) → IsLegalServed (plain_case i limit walks levels) script report → IsReadAs report
+    (m : ℕ) (c : Case) → CanBeTold m c → (script : Script) → IsScript m script → IsCount (length script.phases) →
+    (report : Report) → IsLegalServed c script report → IsReadAs report
 
--- and each where asks are taken as solves
+-- and so is one that is legal where asks are taken as solves
 abbrev pub AnsweredIsRead : Type 0
 AnsweredIsRead =
-    (i : Problem) → IsInstance i → (limit : ℕ) → limit ≤ MOVE_LIMIT → (walks levels : Bool) (script : Script) → IsScript i.rows script → IsCount (length script.phases) →
-    (report : Report) → IsLegalAnswered (plain_case i limit walks levels) script report → IsReadAs report
+    (m : ℕ) (c : Case) → CanBeTold m c → (script : Script) → IsScript m script → IsCount (length script.phases) →
+    (report : Report) → IsLegalAnswered c script report → IsReadAs report

@@ -8,6 +8,7 @@ pub mod Summarised
 pub mod Outcome
 pub mod Forms
 pub mod Plan
+pub mod Telling
 pub mod Running
 pub mod Stopping
 pub mod Following

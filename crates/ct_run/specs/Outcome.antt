@@ -2,7 +2,7 @@
 use Rattle.std.specs.Prelude.{◌≡◌, ℕ, ◌++◌, ◌⊎◌, Bool, true, false, List, Option, codes, decimal}
 use Rattle.std.specs.Io.KnownBytes.{Appends}
 use Rattle.ct_outside.specs.Sink.{AppendsFront}
-use Rattle.ct_instance.specs.Instance.{Problem, column_count}
+use Rattle.ct_instance.specs.Instance.{Problem}
 use Rattle.ct_input.specs.declared.fault.Fault.{Fault}
 use Rattle.ct_input.specs.declared.script.Script.{Script}
 use Rattle.ct_input.specs.FaultText.{fault_text}
@@ -26,7 +26,7 @@ pub data RunOutcome : Type 0 where
   bad_instance : Fault → RunOutcome
   bad_sessions : Fault → RunOutcome
   answered : Case → Script → RunOutcome
-  listed : Case → ℕ → Script → RunOutcome
+  listed : Case → ℕ → ℕ → Script → RunOutcome
   too_many : ℕ → RunOutcome
   certified : Problem → ℕ → RunOutcome
   full : ℕ → RunOutcome
@@ -42,9 +42,9 @@ IsReportOf c script text = (report : Report) × (IsLegalAnswered c script report
 abbrev pub IsServedReportOf : Case → Script → List ℕ → Type 0
 IsServedReportOf c script text = (report : Report) × (IsLegalServed c script report × (text ≡ report_text report))
 
--- a text of what is told of the least solutions of each request, all columns shown
-abbrev pub IsBestOf : Case → ℕ → Script → List ℕ → Type 0
-IsBestOf c count script text = (answers : List BestAnswer) × (IsBestReport c (column_count c.instance) count script answers × (text ≡ best_text answers))
+-- a text of what is told of the least solutions of each request, of each its first n numbers
+abbrev pub IsBestOf : Case → ℕ → ℕ → Script → List ℕ → Type 0
+IsBestOf c n count script text = (answers : List BestAnswer) × (IsBestReport c n count script answers × (text ≡ best_text answers))
 
 -- the status and the text with which the outcome ends
 abbrev pub IsEnding : RunOutcome → Status → List ℕ → Type 0
@@ -52,7 +52,7 @@ IsEnding usage status text = (status ≡ Usage) × (text ≡ codes "usage: ct CO
 IsEnding (bad_instance fault) status text = (status ≡ BadInstance) × (text ≡ codes "bad instance: " ++ fault_text fault ++ newline)
 IsEnding (bad_sessions fault) status text = (status ≡ BadSessions) × (text ≡ codes "bad sessions: " ++ fault_text fault ++ newline)
 IsEnding (answered c script) status text = (status ≡ Done) × IsReportOf c script text
-IsEnding (listed c count script) status text = (status ≡ Done) × IsBestOf c count script text
+IsEnding (listed c n count script) status text = (status ≡ Done) × IsBestOf c n count script text
 IsEnding (too_many requests) status text = (status ≡ TooMany) × (text ≡ codes "too many: " ++ decimal requests ++ codes " requests" ++ newline)
 IsEnding (certified i grade) status text = (status ≡ Done) × IsCertificate i grade text
 IsEnding (full grade) status text = (status ≡ Full) × (text ≡ codes "full " ++ decimal grade ++ newline)

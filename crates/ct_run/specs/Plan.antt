@@ -3,10 +3,13 @@ use Rattle.std.specs.Prelude.{ℕ, ◌*◌, nat_lt, cond, length, false, List, O
 use Rattle.std.specs.declared.alloc.Global.{Global}
 use Rattle.ct_input.specs.declared.fault.Fault.{Fault}
 use Rattle.ct_input.specs.declared.script.Script.{Script}
-use Rattle.ct_run.specs.Forms.{instance_file, session_file}
+use Rattle.ct_run.specs.Forms.{form_file, session_file}
 use Rattle.ct_instance.specs.Instance.{Problem}
 use Rattle.ct_instance.specs.Reach.{full_grade_up_to}
-use Rattle.ct_legal.specs.Cases.{Case, plain_case}
+use Rattle.ct_legal.specs.Cases.{Case}
+use Rattle.ct_form.specs.Forms.{Form}
+use Rattle.ct_form.specs.EqualityForms.{equal_of}
+use Rattle.ct_form_report.specs.FormCases.{form_case}
 use Rattle.ct_best_report.specs.BestReport.{rights_in}
 use Rattle.ct_answer.specs.declared.options.Options.{Options}
 use Rattle.ct_run.specs.Words.{Work, answer, best, certify, check, Command, on, make, serve, command_of}
@@ -26,29 +29,29 @@ by_value refused go (Err fault) = ends (refused fault)
 abbrev pub reads : {A : Type 0} → List ℕ → (List ℕ → Result A Fault) → (Fault → RunOutcome) → (A → Plan) → Plan
 reads name value_of refused go = asks name (λ bytes. by_value refused go (value_of bytes))
 
--- goes on with the script of a session file, for an instance with m rows
+-- goes on with the script of a session file, for a form with m rows
 abbrev pub script_plan : List ℕ → ℕ → (Script → Plan) → Plan
 script_plan name m go = reads name (session_file m) bad_sessions go
 
+-- the case of a form with the options of `answer`
+abbrev pub case_of : Options → Form → Case
+case_of o f = form_case f o.limit o.walks o.levels 0
+
 -- answers the requests of a session file
-abbrev pub sessions_plan : List ℕ → Case → Plan
-sessions_plan sessions c = script_plan sessions (c.instance).rows (λ script. ends (answered c script))
+abbrev pub sessions_plan : List ℕ → Options → Form → Plan
+sessions_plan sessions o f = script_plan sessions f.rows (λ script. ends (answered (case_of o f) script))
 
 -- answers them by sessions and workers
-abbrev pub serve_plan : List ℕ → Case → Plan
-serve_plan sessions c = script_plan sessions (c.instance).rows (λ script. ends (served c script))
-
--- the case of an instance with the options of `answer`
-abbrev pub case_of : Options → Problem → Case
-case_of o i = plain_case i o.limit o.walks o.levels
+abbrev pub serve_plan : List ℕ → Options → Form → Plan
+serve_plan sessions o f = script_plan sessions f.rows (λ script. ends (served (case_of o f) script))
 
 -- the least solutions of each request, where as many requests times the count are at most 10,000
-abbrev pub listed_or_too_many : Case → ℕ → Script → RunOutcome
-listed_or_too_many c count script =
-    cond (nat_lt 10000 (length (rights_in script) * count)) (too_many (length (rights_in script))) (listed c count script)
+abbrev pub listed_or_too_many : Case → ℕ → ℕ → Script → RunOutcome
+listed_or_too_many c n count script =
+    cond (nat_lt 10000 (length (rights_in script) * count)) (too_many (length (rights_in script))) (listed c n count script)
 
-abbrev pub best_plan : List ℕ → Case → ℕ → Plan
-best_plan sessions c count = script_plan sessions (c.instance).rows (λ script. ends (listed_or_too_many c count script))
+abbrev pub best_plan : List ℕ → ℕ → Options → Form → Plan
+best_plan sessions count o f = script_plan sessions f.rows (λ script. ends (listed_or_too_many (case_of o f) (length f.columns) count script))
 
 -- the ledger of a grade, or the full grade where that is at most the grade
 abbrev pub ledger_or_full : Problem → ℕ → Option ℕ → RunOutcome
@@ -62,22 +65,22 @@ certify_plan grade limit i = ends (ledger_or_full i grade (full_grade_up_to i li
 abbrev pub check_plan : List ℕ → Problem → Plan
 check_plan ledger i = asks ledger (λ bytes. ends (checked i bytes))
 
--- what is done with the instance
-abbrev pub work_plan : Work → Problem → Plan
-work_plan (answer sessions walks levels moves) i = sessions_plan sessions (case_of (record { limit = moves; walks = walks; levels = levels }) i)
-work_plan (best sessions count moves) i = best_plan sessions (case_of (record { limit = moves; walks = false; levels = false }) i) count
-work_plan (certify grade moves) i = certify_plan grade moves i
-work_plan (check ledger) i = check_plan ledger i
+-- what is done with the form; a ledger is that of its equality form
+abbrev pub work_plan : Work → Form → Plan
+work_plan (answer sessions walks levels moves) f = sessions_plan sessions (record { limit = moves; walks = walks; levels = levels }) f
+work_plan (best sessions count moves) f = best_plan sessions count (record { limit = moves; walks = false; levels = false }) f
+work_plan (certify grade moves) f = certify_plan grade moves (equal_of f)
+work_plan (check ledger) f = check_plan ledger (equal_of f)
 
--- goes on with the instance of a file
-abbrev pub instance_plan : List ℕ → (Problem → Plan) → Plan
-instance_plan name go = reads name instance_file bad_instance go
+-- goes on with the form of an instance file
+abbrev pub instance_plan : List ℕ → (Form → Plan) → Plan
+instance_plan name go = reads name form_file bad_instance go
 
 abbrev pub command_plan : Command → Plan
 command_plan (on instance work) = instance_plan instance (work_plan work)
 command_plan (make number) = ends (made number)
 command_plan (serve instance sessions workers walks levels moves) =
-    instance_plan instance (λ i. serve_plan sessions (case_of (record { limit = moves; walks = walks; levels = levels }) i))
+    instance_plan instance (serve_plan sessions (record { limit = moves; walks = walks; levels = levels }))
 
 abbrev pub plan_of : Option Command → Plan
 plan_of None = ends usage

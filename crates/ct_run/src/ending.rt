@@ -1,6 +1,5 @@
 //! How a run ends before it writes.
 ghost use Rattle.std.specs.Prelude.{◌≡◌, ◌≤◌, IfOk};
-ghost use Rattle.std.specs.Arc.{arc_value};
 ghost use Rattle.ct_vectors.specs.declared.limits.TheConstants.{WORKER_LIMIT};
 ghost use Rattle.ct_run.specs.Words.{IsLimit};
 ghost use Rattle.ct_run.specs.Outcome.{usage, bad_instance, bad_sessions, answered, served, full};
@@ -10,10 +9,11 @@ ghost use Rattle.ct_run.specs.Stopping.{Fits};
 ghost use Rattle.ct_input.specs.Script.{IsScript};
 
 use crate::status::Status;
+use crate::telling::{told_of, wide_script};
 use ct_answer::{Options, answer};
 use ct_checker::Reason;
 use ct_input::{Fault, Script, push_fault};
-use ct_instance::Instance;
+use ct_form::Form;
 use ct_point::Seq;
 use ct_serve::serve_report;
 use ct_text::push_natural;
@@ -65,18 +65,20 @@ pub fn bad_sessions_ending(alloc: Global, fault: &Fault) -> Result<Ending, Alloc
 /// The ending of `answer`.
 pub fn report_ending(
     alloc: Global,
-    inst: &Arc<Instance>,
-    script: &Script,
+    form: &Form,
+    script: Script,
     options: Options,
 ) -> Result<Ending, AllocError>
     requires limit { IsLimit options.limit }
-    requires script { IsScript (arc_value inst.now).rows script.now }
-    ensures { IfOk result (λ ending. Fits (answered (case_of options (arc_value inst.now)) script.now) ending) }
+    requires script { IsScript form.now.rows script }
+    ensures { IfOk result (λ ending. Fits (answered (case_of options form.now) script) ending) }
 {
-    let report = answer(alloc, Arc::try_clone(inst)?, script, options)?;
+    let wide = wide_script(alloc, form, script)?;
+    let report = answer(alloc, Arc::try_clone(form.equal())?, &wide, options)?;
+    let told = told_of(alloc, form, report)?;
     Ok(Ending {
         status: Status::Done,
-        text: Seq::from_vec(report.print(alloc)?),
+        text: Seq::from_vec(told.print(alloc)?),
     })
 }
 
@@ -84,21 +86,23 @@ pub fn report_ending(
 pub fn served_ending<R: Threads + Wait + Sync, G: Gate + Sync>(
     rt: &R,
     alloc: Global,
-    inst: &Arc<Instance>,
-    script: &Script,
+    form: &Form,
+    script: Script,
     workers: u32,
     options: Options,
     gate: &G,
 ) -> Result<Ending, AllocError>
     requires workers { workers ≤ WORKER_LIMIT }
     requires limit { IsLimit options.limit }
-    requires script { IsScript (arc_value inst.now).rows script.now }
-    ensures { IfOk result (λ ending. Fits (served (case_of options (arc_value inst.now)) script.now) ending) }
+    requires script { IsScript form.now.rows script }
+    ensures { IfOk result (λ ending. Fits (served (case_of options form.now) script) ending) }
 {
-    let report = serve_report(rt, alloc, inst, script, workers, options, gate)?;
+    let wide = wide_script(alloc, form, script)?;
+    let report = serve_report(rt, alloc, form.equal(), &wide, workers, options, gate)?;
+    let told = told_of(alloc, form, report)?;
     Ok(Ending {
         status: Status::Done,
-        text: Seq::from_vec(report.print(alloc)?),
+        text: Seq::from_vec(told.print(alloc)?),
     })
 }
 

@@ -20,6 +20,7 @@ mod serving;
 mod sharing;
 mod status;
 mod stop;
+mod telling;
 mod words;
 mod writing;
 

@@ -1,6 +1,5 @@
 //! The least solutions of each request.
 ghost use Rattle.std.specs.Prelude.{◌≡◌, ◌≤◌, ◌*◌, false, length, nat_lt, IfOk};
-ghost use Rattle.std.specs.Arc.{arc_value};
 ghost use Rattle.ct_input.specs.Script.{IsScript};
 ghost use Rattle.ct_run.specs.Words.{IsLimit, IsBestCount};
 ghost use Rattle.ct_run.specs.Outcome.{too_many};
@@ -9,10 +8,11 @@ ghost use Rattle.ct_run.specs.Stopping.{Fits};
 
 use crate::ending::Ending;
 use crate::status::Status;
+use crate::telling::wide_script;
 use ct_answer::Options;
 use ct_best_report::{best_report, rights_of};
+use ct_form::Form;
 use ct_input::Script;
-use ct_instance::Instance;
 use ct_point::Seq;
 use ct_text::push_natural;
 use std::alloc::{AllocError, Global};
@@ -41,28 +41,29 @@ fn too_many_ending(alloc: Global, requests: u64) -> Result<Ending, AllocError>
 /// The ending of `best`: the text of the least solutions, or the refusal of too many.
 pub fn best_ending(
     alloc: Global,
-    inst: &Arc<Instance>,
-    script: &Script,
+    form: &Form,
+    script: Script,
     count: u64,
     options: Options,
 ) -> Result<Ending, AllocError>
     requires limit { IsLimit options.limit }
     requires count { IsBestCount count }
     requires plain { (options.walks ≡ false) × (options.levels ≡ false) }
-    requires script { IsScript (arc_value inst.now).rows script.now }
-    ensures { IfOk result (λ ending. Fits (listed_or_too_many (case_of options (arc_value inst.now)) count script.now) ending) }
+    requires script { IsScript form.now.rows script }
+    ensures { IfOk result (λ ending. Fits (listed_or_too_many (case_of options form.now) (length form.now.columns) count script) ending) }
 {
-    let rights = rights_of(alloc, script)?;
+    let wide = wide_script(alloc, form, script)?;
+    let rights = rights_of(alloc, &wide)?;
     if is_too_many(rights.len(), count) {
         return too_many_ending(alloc, rights.len() as u64);
     }
-    let shared = Arc::try_clone(inst)?;
+    let shared = Arc::try_clone(form.equal())?;
     let report = best_report(
         alloc,
         shared,
         &rights,
         options.limit,
-        inst.columns(),
+        form.columns(),
         count as u32,
     )?;
     Ok(Ending {

@@ -1,9 +1,9 @@
 //! The commands that take no threads.
 ghost use Rattle.std.specs.Prelude.{◌≡◌, ◌≤◌, false, ℕ, List, IfSome, option_map};
-ghost use Rattle.std.specs.Arc.{arc_value};
+ghost use Rattle.ct_form.specs.EqualityForms.{equal_of};
 ghost use Rattle.ct_run.specs.Words.{IsLimit, IsBestCount, IsWorkWithin, IsCommandWithin};
 ghost use Rattle.ct_run.specs.Commands.{work_seen, seen};
-ghost use Rattle.ct_run.specs.Plan.{case_of, sessions_plan, best_plan, check_plan, work_plan, instance_plan, plan_of, plain_of};
+ghost use Rattle.ct_run.specs.Plan.{sessions_plan, best_plan, check_plan, work_plan, instance_plan, plan_of, plain_of};
 ghost use Rattle.ct_run.specs.Stopping.{Ran};
 
 use crate::certifying::certify_ending;
@@ -11,37 +11,37 @@ use crate::checking::check_ending;
 use crate::ending::{Ending, report_ending, usage_ending};
 use crate::listing::best_ending;
 use crate::making::made_ending;
-use crate::reading::{file_at, instance_at, script_at};
+use crate::reading::{file_at, form_at, script_at};
 use crate::stop::Stop;
 use crate::words::{Command, Work};
 use ct_answer::Options;
+use ct_form::Form;
 use ct_input::limits::LEDGER_FILE_LIMIT;
-use ct_instance::Instance;
 use ct_outside::Shelf;
 use std::alloc::Global;
 use std::sync::Arc;
 
-// The ending of `answer` on the session file of an instance.
+// The ending of `answer` on the session file of a form.
 fn sessions_ending<S: Shelf>(
     alloc: Global,
-    inst: &Arc<Instance>,
+    form: &Form,
     sessions: &str,
     options: Options,
     shelf: &mut S,
 ) -> Result<Ending, Stop>
     requires { IsLimit options.limit }
-    ensures ran { Ran (sessions_plan sessions.now (case_of options (arc_value inst.now))) (S.told shelf.old) (S.faults shelf.old) (S.faults shelf.new) result }
+    ensures ran { Ran (sessions_plan sessions.now options form.now) (S.told shelf.old) (S.faults shelf.old) (S.faults shelf.new) result }
     ensures kept { S.told shelf.new ≡ S.told shelf.old }
     ensures later { (name : List ℕ) → S.faults shelf.old name ≤ S.faults shelf.new name }
 {
-    let script = script_at(alloc, inst.rows(), sessions, shelf)?;
-    Ok(report_ending(alloc, inst, &script, options)?)
+    let script = script_at(alloc, form.rows(), sessions, shelf)?;
+    Ok(report_ending(alloc, form, script, options)?)
 }
 
-// The ending of `best` on the session file of an instance.
+// The ending of `best` on the session file of a form.
 fn listed_ending<S: Shelf>(
     alloc: Global,
-    inst: &Arc<Instance>,
+    form: &Form,
     sessions: &str,
     count: u64,
     options: Options,
@@ -50,39 +50,39 @@ fn listed_ending<S: Shelf>(
     requires limit { IsLimit options.limit }
     requires count { IsBestCount count }
     requires plain { (options.walks ≡ false) × (options.levels ≡ false) }
-    ensures ran { Ran (best_plan sessions.now (case_of options (arc_value inst.now)) count) (S.told shelf.old) (S.faults shelf.old) (S.faults shelf.new) result }
+    ensures ran { Ran (best_plan sessions.now count options form.now) (S.told shelf.old) (S.faults shelf.old) (S.faults shelf.new) result }
     ensures kept { S.told shelf.new ≡ S.told shelf.old }
     ensures later { (name : List ℕ) → S.faults shelf.old name ≤ S.faults shelf.new name }
 {
-    let script = script_at(alloc, inst.rows(), sessions, shelf)?;
-    Ok(best_ending(alloc, inst, &script, count, options)?)
+    let script = script_at(alloc, form.rows(), sessions, shelf)?;
+    Ok(best_ending(alloc, form, script, count, options)?)
 }
 
 // The ending of `check` on the ledger file.
 fn ledger_ending<S: Shelf>(
     alloc: Global,
-    inst: &Arc<Instance>,
+    form: &Form,
     ledger: &str,
     shelf: &mut S,
 ) -> Result<Ending, Stop>
-    ensures ran { Ran (check_plan ledger.now (arc_value inst.now)) (S.told shelf.old) (S.faults shelf.old) (S.faults shelf.new) result }
+    ensures ran { Ran (check_plan ledger.now (equal_of form.now)) (S.told shelf.old) (S.faults shelf.old) (S.faults shelf.new) result }
     ensures kept { S.told shelf.new ≡ S.told shelf.old }
     ensures later { (name : List ℕ) → S.faults shelf.old name ≤ S.faults shelf.new name }
 {
     let bytes = file_at(alloc, ledger, LEDGER_FILE_LIMIT as u64, shelf)?;
-    let ending = check_ending(alloc, inst, &bytes)?;
+    let ending = check_ending(alloc, form.equal(), &bytes)?;
     Ok(ending)
 }
 
-// The ending of the work on an instance.
+// The ending of the work on a form.
 fn work_ending<S: Shelf>(
     alloc: Global,
     work: Work<'_>,
-    inst: Arc<Instance>,
+    form: &Form,
     shelf: &mut S,
 ) -> Result<Ending, Stop>
     requires { IsWorkWithin (work_seen work) }
-    ensures ran { Ran (work_plan (work_seen work.entry) (arc_value inst)) (S.told shelf.old) (S.faults shelf.old) (S.faults shelf.new) result }
+    ensures ran { Ran (work_plan (work_seen work.entry) form.now) (S.told shelf.old) (S.faults shelf.old) (S.faults shelf.new) result }
     ensures kept { S.told shelf.new ≡ S.told shelf.old }
     ensures later { (name : List ℕ) → S.faults shelf.old name ≤ S.faults shelf.new name }
 {
@@ -98,7 +98,7 @@ fn work_ending<S: Shelf>(
                 walks,
                 levels,
             };
-            sessions_ending(alloc, &inst, sessions, options, shelf)
+            sessions_ending(alloc, form, sessions, options, shelf)
         }
         Work::Best {
             sessions,
@@ -110,14 +110,17 @@ fn work_ending<S: Shelf>(
                 walks: false,
                 levels: false,
             };
-            listed_ending(alloc, &inst, sessions, count, options, shelf)
+            listed_ending(alloc, form, sessions, count, options, shelf)
         }
-        Work::Certify { grade, moves } => Ok(certify_ending(alloc, inst, grade, moves)?),
-        Work::Check { ledger } => ledger_ending(alloc, &inst, ledger, shelf),
+        Work::Certify { grade, moves } => {
+            let equal = Arc::try_clone(form.equal())?;
+            Ok(certify_ending(alloc, equal, grade, moves)?)
+        }
+        Work::Check { ledger } => ledger_ending(alloc, form, ledger, shelf),
     }
 }
 
-// The ending of the work on the instance of a file.
+// The ending of the work on the form of an instance file.
 fn instance_ending<S: Shelf>(
     alloc: Global,
     instance: &str,
@@ -129,8 +132,8 @@ fn instance_ending<S: Shelf>(
     ensures kept { S.told shelf.new ≡ S.told shelf.old }
     ensures later { (name : List ℕ) → S.faults shelf.old name ≤ S.faults shelf.new name }
 {
-    let inst = instance_at(alloc, instance, shelf)?;
-    work_ending(alloc, work, inst, shelf)
+    let form = form_at(alloc, instance, shelf)?;
+    work_ending(alloc, work, &form, shelf)
 }
 
 /// The ending of a command but `serve`, or of words that are none.

@@ -6,7 +6,7 @@ ghost use Rattle.ct_run.specs.Plan.{command_plan};
 ghost use Rattle.ct_run.specs.Stopping.{Ran};
 
 use crate::ending::{Ending, served_ending};
-use crate::reading::{instance_at, script_at};
+use crate::reading::{form_at, script_at};
 use crate::stop::Stop;
 use ct_answer::Options;
 use ct_outside::Shelf;
@@ -32,7 +32,7 @@ pub fn serve_ending<R: Threads + Wait + Sync, S: Shelf, G: Gate + Sync>(
     ensures kept { S.told shelf.new ≡ S.told shelf.old }
     ensures later { (name : List ℕ) → S.faults shelf.old name ≤ S.faults shelf.new name }
 {
-    let inst = instance_at(alloc, instance, shelf)?;
-    let script = script_at(alloc, inst.rows(), sessions, shelf)?;
-    Ok(served_ending(rt, alloc, &inst, &script, workers, options, gate)?)
+    let form = form_at(alloc, instance, shelf)?;
+    let script = script_at(alloc, form.rows(), sessions, shelf)?;
+    Ok(served_ending(rt, alloc, &form, script, workers, options, gate)?)
 }

@@ -1,8 +1,14 @@
-use Rattle.ct_run.proofs.ReportLimits.{served_is_read, answered_is_read}
+use Rattle.ct_run.proofs.ReportLimits.{plain_can_be_told, form_can_be_told, served_is_read, answered_is_read}
 use Rattle.ct_run.proofs.laws.legal_reports_are_read.Goals as goal
 
+pub returns-clause-instances : goal.returns-clause-instances
+returns-clause-instances c = plain_can_be_told
+
+pub returns-clause-forms : goal.returns-clause-forms
+returns-clause-forms c = form_can_be_told
+
 pub returns-clause-served : goal.returns-clause-served
-returns-clause-served c = λ i inst limit most walks levels script is count report legal. served_is_read i inst limit most walks levels script report is count legal
+returns-clause-served c = served_is_read
 
 pub returns-clause-answered : goal.returns-clause-answered
-returns-clause-answered c = λ i inst limit most walks levels script is count report legal. answered_is_read i inst limit most walks levels script report is count legal
+returns-clause-answered c = answered_is_read

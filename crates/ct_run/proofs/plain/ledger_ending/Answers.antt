@@ -1,5 +1,6 @@
 use Rattle.std.proofs.Common.{◌≡◌, ◌+◌, ◌∙◌, subst, inl, inr, Ok, ℕ, List, [], ◌∷◌, take}
-use Rattle.std.specs.Arc.{arc_value}
+use Rattle.ct_instance.specs.Instance.{Problem}
+use Rattle.ct_form.specs.EqualityForms.{equal_of}
 use Rattle.ct_input.specs.declared.limits.TheConstants.{LEDGER_FILE_LIMIT}
 use Rattle.ct_run.specs.Outcome.{checked}
 use Rattle.ct_run.specs.Plan.{ends}
@@ -12,7 +13,7 @@ use Rattle.ct_run.proofs.plain.ledger_ending.Goals as goal
 
 pub returns-clause-ran : goal.returns-clause-ran
 returns-clause-ran g c =
-    let i = arc_value c.args.inst.now in
+    let i = equal_of c.args.form.now in
     let ending = c.in_ok-ending.ending in
     let told = g.S.Shelf.told c.args.shelf.now in
     let before = g.S.Shelf.faults c.args.shelf.now in
@@ -22,5 +23,5 @@ returns-clause-ran g c =
     (λ bytes. RunsAfter told before now (EndedBy (Ok ending)) (λ name. StoppedBy (Ok ending) (before name) (now name)) (name ∷ []) (ends (checked i bytes)))
     (λ bytes same. (
       λ other out. c.in_ok-bytes.ensures.shelf.others other (λ e. out (inl e)),
-      checked_front i bytes ending.status ending.text (subst (λ (b : List ℕ). IsChecked i b ending.status ending.text) (c.deref.ensures.value ∙ same) c.in_ok-ending.ensures),
+      checked_front i bytes ending.status ending.text (subst (λ (b : List ℕ). IsChecked i b ending.status ending.text) (c.deref.ensures.value ∙ same) (subst (λ (p : Problem). IsChecked p c.deref.result.now ending.status ending.text) c.equal.ensures c.in_ok-ending.ensures)),
     )) c.in_ok-bytes.ensures.read)

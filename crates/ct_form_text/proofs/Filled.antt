@@ -6,7 +6,7 @@ use Rattle.ct_vectors.specs.declared.limits.TheConstants.{ROW_LIMIT, COLUMN_LIMI
 use Rattle.ct_input.specs.Grammar.{Grammar, done, nothing, word, number, signed, fork, barred, only, part, numbers, exactly}
 use Rattle.ct_input.specs.InstanceText.{cost_rows}
 use Rattle.ct_input.proofs.Filling.{end_word, Fills, opens, Closes, Needs}
-use Rattle.ct_input.proofs.Filled.{opens_part, fills_part, closes_part, fills_numbers, fills_cost_rows, opens_cost_rows}
+use Rattle.ct_input.proofs.Filled.{opens_part, fills_part, closes_part, fills_numbers, fills_sizes, fills_cost_rows, opens_cost_rows}
 use Rattle.ct_form.specs.declared.relation.Limits.{Limits}
 use Rattle.ct_form_text.specs.declared.draft.FormDraft.{FormDraft}
 use Rattle.ct_form.specs.Made.{given_of}
@@ -135,25 +135,11 @@ numbered limited =
 
 fills_numbered : (limited : Bool) → Fills true [] (numbered limited)
 unfolding Fills
-fills_numbered limited = (
+fills_numbered limited = fills_sizes (λ m n. word (codes "matrix") (part (numbers (m * n) ENTRY_LIMIT) (limited_part limited m n))) (λ m n. (
   record { some = λ e. cc; plain = refl },
-  (
-    omega arith,
-    omega arith,
-    λ m. (
-      record { some = λ e. cc; plain = refl },
-      (
-        omega arith,
-        omega arith,
-        λ n. (
-          record { some = λ e. cc; plain = refl },
-          fills_part true [] (next_word limited) (numbers (m * n) ENTRY_LIMIT) (limited_part limited m n)
-              (fills_numbers (next_word limited) (m * n) ENTRY_LIMIT (lit≤ tt)) (fills_limited limited m n) (opens_limited limited m n),
-        ),
-      ),
-    ),
-  ),
-)
+  fills_part true [] (next_word limited) (numbers (m * n) ENTRY_LIMIT) (limited_part limited m n)
+      (fills_numbers (next_word limited) (m * n) ENTRY_LIMIT (lit≤ tt)) (fills_limited limited m n) (opens_limited limited m n),
+))
 
 closes_numbered : (limited : Bool) → Closes (numbered limited) × Needs (numbered limited)
 unfolding Closes Needs

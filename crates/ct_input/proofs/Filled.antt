@@ -2,7 +2,7 @@
 use Rattle.std.proofs.Common.{◌≡◌, ℕ, zero, suc, ◌-◌, ◌*◌, ◌≤◌, Bool, true, false, List, [], ◌∷◌, ◌++◌, length, Option, Some, None, ℤ, refl, ap, ◌∙◌, arith, lit≤}
 use Rattle.std.specs.Prelude.{codes}
 use Rattle.std.specs.Str.{bytes_eq}
-use Rattle.ct_vectors.specs.declared.limits.TheConstants.{ENTRY_LIMIT, COST_LIMIT, COST_ROW_LIMIT, RIGHT_LIMIT, SESSION_LIMIT}
+use Rattle.ct_vectors.specs.declared.limits.TheConstants.{ROW_LIMIT, COLUMN_LIMIT, ENTRY_LIMIT, COST_LIMIT, COST_ROW_LIMIT, RIGHT_LIMIT, SESSION_LIMIT}
 use Rattle.ct_input.specs.declared.limits.TheConstants.{PHASE_LIMIT, REQUEST_LIMIT}
 use Rattle.ct_input.specs.declared.script.Request.TheVariants.{Ask, Solve}
 use Rattle.ct_input.specs.declared.script.Phase.{Phase}
@@ -241,30 +241,25 @@ opens_costly m n entries = opens_part [] end_word (cost_rows n) (closing m n ent
 closes_costly : (m n : ℕ) (entries : List ℕ) → Closes (costly m n entries) × Needs (costly m n entries)
 closes_costly m n entries = closes_part end_word (cost_rows n) (closing m n entries) (fills_cost_rows n) (closes_closing m n entries)
 
+-- what begins with the numbers of rows and columns
+pub fills_sizes : {A : Type 0} (go : ℕ → ℕ → Grammar A) → ((m n : ℕ) → Fills true [] (go m n)) →
+    Fills true [] (word (codes "rows") (number 1 ROW_LIMIT (λ m. word (codes "columns") (number 1 COLUMN_LIMIT (go m)))))
+unfolding Fills
+fills_sizes go fills = (
+  record { some = λ e. cc; plain = refl },
+  (omega arith, omega arith, λ m. (record { some = λ e. cc; plain = refl }, (omega arith, omega arith, fills m))),
+)
+
 pub fills_instance_text : Fills true [] instance_text
 unfolding instance_text Fills opens
 fills_instance_text = (
   record { some = λ e. cc; plain = refl },
   (
     record { some = λ e. cc; plain = refl },
-    (
+    fills_sizes (λ m n. word (codes "matrix") (part (numbers (m * n) ENTRY_LIMIT) (costly m n))) (λ m n. (
       record { some = λ e. cc; plain = refl },
-      (
-        omega arith,
-        omega arith,
-        λ m. (
-          record { some = λ e. cc; plain = refl },
-          (
-            omega arith,
-            omega arith,
-            λ n. (
-              record { some = λ e. cc; plain = refl },
-              fills_part true [] (codes "cost") (numbers (m * n) ENTRY_LIMIT) (costly m n) (fills_numbers (codes "cost") (m * n) ENTRY_LIMIT (lit≤ tt)) (fills_costly m n) (opens_costly m n),
-            ),
-          ),
-        ),
-      ),
-    ),
+      fills_part true [] (codes "cost") (numbers (m * n) ENTRY_LIMIT) (costly m n) (fills_numbers (codes "cost") (m * n) ENTRY_LIMIT (lit≤ tt)) (fills_costly m n) (opens_costly m n),
+    )),
   ),
 )
 

@@ -10,7 +10,7 @@ ghost use Rattle.ct_legal.specs.Legal.{IsLevelShown, AreLegalPhases, IsLegalAnsw
 ghost use Rattle.std.specs.Prelude.{map};
 ghost use Rattle.ct_answer.specs.Told.{case_at, AreToldLines, AreToldSessions, IsToldPhase};
 
-use crate::grades::{grade_of, greatest_sum, raised};
+use crate::grades::{raised, top_of};
 use crate::options::Options;
 use crate::solver::Solver;
 use ct_input::{Phase, Request, Script};
@@ -130,11 +130,7 @@ pub fn answer(
     ensures { IfOk result (IsLegalAnswered (plain_case (arc_value inst) options.limit options.walks options.levels) script.now) }
 {
     let phases = script.phases.as_slice();
-    let top = if options.levels {
-        grade_of(inst.rows(), phases)
-    } else {
-        greatest_sum(inst.rows(), phases)
-    };
+    let top = top_of(inst.rows(), phases, options.levels);
     let mut solver = Solver::open(alloc, inst, options.limit, top)?;
     let phases = phases_of(alloc, &mut solver, phases, options)?;
     Ok(Report { phases })

@@ -7,7 +7,7 @@ ghost use Rattle.ct_legal.specs.Cases.{plain_case};
 ghost use Rattle.ct_legal.specs.Legal.{IsLegalAnswered};
 
 use crate::answering::phases_of;
-use crate::grades::{grade_of, greatest_sum};
+use crate::grades::top_of;
 use crate::options::Options;
 use crate::solver::Solver;
 use ct_input::Script;
@@ -35,11 +35,7 @@ pub fn answer_batch_report<R: Threads + Sync>(
     ensures { IfOk result (IsLegalAnswered (plain_case (arc_value inst) options.limit options.walks options.levels) script.now) }
 {
     let phases = script.phases.as_slice();
-    let top = if options.levels {
-        grade_of(inst.rows(), phases)
-    } else {
-        greatest_sum(inst.rows(), phases)
-    };
+    let top = top_of(inst.rows(), phases, options.levels);
     let mut solver = Solver::open(alloc, inst, options.limit, top)?;
     solver.prepare(rt, alloc, top, phases)?;
     let phases = phases_of(alloc, &mut solver, phases, options)?;

@@ -101,3 +101,16 @@ pub fn greatest_sum(rows: usize, phases: &[Phase]) -> u64
     }
     top
 }
+
+// The greatest grade that a report of the phases asks for: with levels targets count, too.
+pub fn top_of(rows: usize, phases: &[Phase], levels: bool) -> u64
+    requires rows { rows ≤ ROW_LIMIT }
+    requires phases { All (IsPhase rows) phases.now }
+    ensures { result ≤ GRADE_LIMIT }
+{
+    if levels {
+        grade_of(rows, phases)
+    } else {
+        greatest_sum(rows, phases)
+    }
+}

@@ -14,7 +14,8 @@ refused, only the latter.
 of 1, 5, 10 and 25, and two phases of two sessions in coins of 3 and 5, with walks. A run ends with the report that `answer`
 writes, or with status 7 and nothing written; where a thread is refused, with the report.
 
-`answer` of the second input and `best` of a request, both also of a form with a slack and a bound: a run ends with its text, or with status 7 and nothing written.
+`answer` of the second input and `best` of a request, both also of a form with a slack and a bound, and `answer --batch` of 3,000
+requests: a run ends with its text, or with status 7 and nothing written.
 
 `answer` and `serve` with a full device and with a pipe that was closed before the first byte end with status 6 and by no
 signal; with a pipe that is read one byte at a time they end with status 0, and all bytes came.
@@ -34,6 +35,7 @@ THREES = "instance 1 rows 1 columns 2 matrix 3 5 cost 2 3 end"
 FORM = "instance 2 rows 1 columns 2 matrix 3 5 relations le bounds 2 - cost -2 -3 end"
 EIGHT = "sessions 1 phase 0" + 8 * " session solve 94 solve 41 solve 7 solve 0" + " end"
 PHASES = "sessions 1 phase 8" + 2 * " session solve 15 solve 8" + " phase 21" + 2 * " session solve 7 solve 30" + " end"
+BATCH = "sessions 1 phase 0 session" + "".join(f" solve {number}" for number in range(3000)) + " end"
 LONG = "sessions 1 phase 0 session" + "".join(f" solve {number % 95}" for number in range(10000)) + " end"
 INPUTS = (("coins of four kinds", COINS, EIGHT, []), ("coins of 3 and 5", THREES, PHASES, ["--walks"]))
 COMPLETIONS = (("coins of four kinds", COINS, "94"), ("coins of 3 and 5", THREES, "20"))
@@ -133,14 +135,15 @@ def main():
                 words = [bench, file("instance", instance), grade, way, "1"]
                 refuse(f"{name} up to {grade} by {way}", words, library, ERROR, whole_output(words))
         sets = [
-            ["answer", THREES, PHASES, "--walks"],
-            ["answer", FORM, PHASES, "--walks"],
-            ["best", THREES, "sessions 1 phase 0 session solve 30 end", "3"],
-            ["best", FORM, "sessions 1 phase 0 session solve 30 end", "3"],
+            ["answer", THREES, PHASES, ["--walks"]],
+            ["answer", FORM, PHASES, ["--walks"]],
+            ["best", THREES, "sessions 1 phase 0 session solve 30 end", ["3"]],
+            ["best", FORM, "sessions 1 phase 0 session solve 30 end", ["3"]],
+            ["answer", THREES, BATCH, ["--walks", "--batch"]],
         ]
-        for command, instance, sessions, option in sets:
-            words = [ct, command, file("instance", instance), file("sessions", sessions), option]
-            refuse(command, words, library, MEMORY, whole_output(words))
+        for command, instance, sessions, more in sets:
+            words = [ct, command, file("instance", instance), file("sessions", sessions), *more]
+            refuse(" ".join([command, *more]), words, library, MEMORY, whole_output(words))
         for name, instance, sessions, options in INPUTS:
             files = [file("instance", instance), file("sessions", sessions), *options]
             report = whole_output([ct, "answer", *files])

@@ -14,7 +14,7 @@ use crate::texts::{Texts, list, string};
 use crate::trial::{Trial, words_of};
 use anyhow::{Context, Result};
 use ct_outside::{FetchFault, MemShelf, MemSink, Shelf};
-use ct_promise::{run, run_plain};
+use ct_promise::{run, run_batch, run_plain};
 use serde_json::Value;
 use std::alloc::Global;
 use std::rt::Files;
@@ -25,8 +25,22 @@ use std::thread::Threads;
 // More bytes than any trial writes.
 const ROOM: u64 = 64_000_000;
 
+// The status of words that are none of a command.
+const USAGE: u64 = 2;
+
 // The status of a run whose write failed.
 const NOT_WRITTEN: u64 = 6;
+
+/// The call that runs the words.
+#[derive(Clone, Copy)]
+enum Call<'a> {
+    /// That of all commands, with a gate for workers and sessions.
+    Whole(&'a Gatekeeper),
+    /// That of the commands whose threads never wait.
+    Batch,
+    /// That of the commands of one thread.
+    Plain,
+}
 
 /// What a run ended with and wrote.
 #[derive(Drop)]
@@ -35,18 +49,19 @@ struct Outcome {
     text: Vec<u8>,
 }
 
-// Runs the words as they are, or by the call without threads.
+// Runs the words.
 fn run_by<R: AllocGlobal + Threads + Wait + Sync, S: Shelf>(
     rt: &R,
     words: &[String],
     shelf: &mut S,
     mut out: MemSink,
-    gate: Option<&Gatekeeper>,
+    call: Call<'_>,
 ) -> Result<Outcome> {
     let alloc = rt.alloc();
-    let status = match gate {
-        Some(gate) => run(rt, alloc, words, shelf, &mut out, gate),
-        None => run_plain(alloc, words, shelf, &mut out),
+    let status = match call {
+        Call::Whole(gate) => run(rt, alloc, words, shelf, &mut out, gate),
+        Call::Batch => run_batch(rt, alloc, words, shelf, &mut out),
+        Call::Plain => run_plain(alloc, words, shelf, &mut out),
     };
     Ok(Outcome {
         status: u64::from(status.number()),
@@ -66,16 +81,17 @@ fn has_fetched(alloc: Global, shelf: &mut MemShelf) -> bool {
     shelf.fetch(alloc, "counted", 1, &mut bytes) == Err(FetchFault::Failed)
 }
 
-// Whether one run, by either call, ends with what it must write and as often asks for files.
+// Whether one run of these words, by any call, ends with what the trial must write and as often asks for files.
 fn ends<R: AllocGlobal + Threads + Wait + Sync>(
     rt: &R,
     trial: &Trial<'_>,
-    gate: Option<&Gatekeeper>,
+    words: &[String],
+    call: Call<'_>,
 ) -> Result<bool> {
     let alloc = rt.alloc();
     let out = sink(alloc, trial, trial.number("failing_write").unwrap_or(0))?;
     if trial.value.get("no_room").is_some() {
-        let told = run_by(rt, &trial.words, &mut NoRoom, out, gate)?;
+        let told = run_by(rt, words, &mut NoRoom, out, call)?;
         return Ok(Some(told.status) == trial.number("status") && trial.allows(&told.text));
     }
     let mut shelf = trial.shelf(alloc, usize::MAX)?;
@@ -84,11 +100,11 @@ fn ends<R: AllocGlobal + Threads + Wait + Sync>(
     if let Some(fetches) = fetches {
         shelf.fail_at(alloc, fetches.saturating_add(1))?;
     }
-    let told = run_by(rt, &trial.words, &mut shelf, out, gate)?;
+    let told = run_by(rt, words, &mut shelf, out, call)?;
     let is_well = told.status == trial.number("status").unwrap_or(0);
     let is_text = trial.is_free() || trial.allows(&told.text);
     let is_like = is_like(rt, trial, &told.text)?;
-    let is_then = has_next(rt, trial, &told.text, gate)?;
+    let is_then = has_next(rt, trial, &told.text, call)?;
     Ok(
         is_well
             && is_text
@@ -122,7 +138,7 @@ fn is_like<R: AllocGlobal + Threads + Wait + Sync>(
     };
     let mut shelf = trial.shelf(alloc, usize::MAX)?;
     let words = words_of(alloc, like)?;
-    let other = run_by(rt, &words, &mut shelf, sink(alloc, trial, 0)?, None)?;
+    let other = run_by(rt, &words, &mut shelf, sink(alloc, trial, 0)?, Call::Plain)?;
     Ok(match string(trial.value, "early_before") {
         None => text == other.text.as_slice(),
         Some(line) => is_served_as(str::from_utf8(text)?, str::from_utf8(&other.text)?, line),
@@ -134,7 +150,7 @@ fn has_next<R: AllocGlobal + Threads + Wait + Sync>(
     rt: &R,
     trial: &Trial<'_>,
     text: &[u8],
-    gate: Option<&Gatekeeper>,
+    call: Call<'_>,
 ) -> Result<bool> {
     let alloc = rt.alloc();
     let Some(then) = trial.value.get("then") else {
@@ -143,14 +159,14 @@ fn has_next<R: AllocGlobal + Threads + Wait + Sync>(
     let words = words_of(alloc, then.get("words").context("no words")?)?;
     let mut shelf = trial.shelf(alloc, usize::MAX)?;
     shelf.add(alloc, string(then, "as").unwrap_or("L"), text)?;
-    let next = run_by(rt, &words, &mut shelf, sink(alloc, trial, 0)?, gate)?;
+    let next = run_by(rt, &words, &mut shelf, sink(alloc, trial, 0)?, call)?;
     Ok(next.text.as_slice() == string(then, "writes").unwrap_or("").as_bytes())
 }
 
 // Whether the run by workers and sessions ends so, and the gate was passed as is said.
 fn ends_at_gate<R: AllocGlobal + Threads + Wait + Sync>(rt: &R, trial: &Trial<'_>) -> Result<bool> {
     let gate = Gatekeeper::new(rt.alloc(), trial.value.get("holds"))?;
-    let has_ended = ends(rt, trial, Some(&gate))?;
+    let has_ended = ends(rt, trial, &trial.words, Call::Whole(&gate))?;
     let has_passed = match list(trial.value, "passed") {
         None => true,
         Some(times) => gate.has_passed(times),
@@ -168,7 +184,13 @@ fn cuts_end<R: AllocGlobal + Threads + Wait + Sync>(
     let whole = trial.number("whole_from").unwrap_or(length as u64);
     for cut in 0..length {
         let mut shelf = trial.shelf(alloc, cut)?;
-        let told = run_by(rt, &trial.words, &mut shelf, sink(alloc, trial, 0)?, None)?;
+        let told = run_by(
+            rt,
+            &trial.words,
+            &mut shelf,
+            sink(alloc, trial, 0)?,
+            Call::Plain,
+        )?;
         let is_well = if cut as u64 >= whole {
             told.status == trial.number("status").unwrap_or(0) && trial.allows(&told.text)
         } else {
@@ -191,7 +213,7 @@ fn writes_fail<R: AllocGlobal + Threads + Wait + Sync>(
     for before in 0..writes {
         let mut shelf = trial.shelf(alloc, usize::MAX)?;
         let out = sink(alloc, trial, before.saturating_add(1))?;
-        let told = run_by(rt, &trial.words, &mut shelf, out, None)?;
+        let told = run_by(rt, &trial.words, &mut shelf, out, Call::Plain)?;
         let taken = before.saturating_mul(trial.number("bite").unwrap_or(1000));
         if told.status != NOT_WRITTEN || !trial.has_front(&told.text, taken) {
             return Ok(false);
@@ -200,7 +222,38 @@ fn writes_fail<R: AllocGlobal + Threads + Wait + Sync>(
     Ok(true)
 }
 
-/// Whether the runs of a trial come to what is stored. What isn't served is run by both calls.
+// The words, in which `answer` and `check` are told to take several threads.
+fn batched(alloc: Global, words: &[String]) -> Result<Vec<String>> {
+    let mut made = Vec::new(alloc);
+    for word in words {
+        made.push(word.clone()?)?;
+        if made.len() == 1 && matches!(word.as_str(), "answer" | "check") && !is_batch(words) {
+            made.push(String::from_str(alloc, "--batch")?)?;
+        }
+    }
+    Ok(made)
+}
+
+fn is_batch(words: &[String]) -> bool {
+    words.iter().any(|it| it.as_str() == "--batch")
+}
+
+fn is_served(words: &[String]) -> bool {
+    words.first().is_some_and(|it| it.as_str() == "serve")
+}
+
+// Whether the call takes the words as those of no command.
+fn is_refused<R: AllocGlobal + Threads + Wait + Sync>(
+    rt: &R,
+    trial: &Trial<'_>,
+    call: Call<'_>,
+) -> Result<bool> {
+    let mut shelf = trial.shelf(rt.alloc(), usize::MAX)?;
+    let out = sink(rt.alloc(), trial, 0)?;
+    Ok(run_by(rt, &trial.words, &mut shelf, out, call)?.status == USAGE)
+}
+
+/// Whether the runs of a trial come to what is stored. What isn't served is run by each call, which refuses what isn't its own.
 pub fn is_as_stored<R: Files + AllocGlobal + Threads + Wait + Sync>(
     rt: &R,
     texts: &Texts<'_>,
@@ -210,12 +263,21 @@ pub fn is_as_stored<R: Files + AllocGlobal + Threads + Wait + Sync>(
     if let Some(writes) = trial.number("each_write") {
         return writes_fail(rt, &trial, writes);
     }
-    let is_served = trial.words.first().is_some_and(|it| it.as_str() == "serve");
     let by_threads = ends_at_gate(rt, &trial)?;
-    let by_one = is_served || ends(rt, &trial, None)?;
+    let by_batch = if is_served(&trial.words) {
+        is_refused(rt, &trial, Call::Batch)?
+    } else {
+        let words = batched(rt.alloc(), &trial.words)?;
+        ends(rt, &trial, &words, Call::Batch)?
+    };
+    let by_one = if is_served(&trial.words) || is_batch(&trial.words) {
+        is_refused(rt, &trial, Call::Plain)?
+    } else {
+        ends(rt, &trial, &trial.words, Call::Plain)?
+    };
     let by_cuts = match trial.cut_length() {
         None => true,
         Some(length) => cuts_end(rt, &trial, length)?,
     };
-    Ok(by_threads && by_one && by_cuts)
+    Ok(by_threads && by_batch && by_one && by_cuts)
 }

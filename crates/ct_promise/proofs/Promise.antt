@@ -1,5 +1,5 @@
 -- What was written where a run ended as Done keeps the promise.
-use Rattle.std.proofs.Common.{◌≡◌, ℕ, ◌≤◌, Bool, false, List, Option, Some, None, Result, Ok, Err, map, option_map, unwrap_or, string_bytes, codes, refl, subst, arith}
+use Rattle.std.proofs.Common.{◌≡◌, ℕ, ◌≤◌, cond, Bool, true, false, List, Option, Some, None, Result, Ok, Err, map, option_map, unwrap_or, string_bytes, codes, refl, subst, arith}
 use Rattle.std.specs.List.{AllByRecursion}
 use Rattle.std.specs.Io.KnownBytes.{Appends}
 use Rattle.ct_vectors.specs.declared.limits.TheConstants.{MOVE_LIMIT}
@@ -25,20 +25,20 @@ use Rattle.ct_words.specs.declared.table.CommandName.{CommandName}
 use Rattle.ct_words.specs.declared.table.CommandName.TheVariants as names
 use Rattle.ct_run.specs.declared.status.Status.{Status}
 use Rattle.ct_run.specs.declared.status.Status.TheVariants.{Done, BadInstance, BadSessions}
-use Rattle.ct_run.specs.Words.{answer, best, certify, check, Command, on, make, serve, limit_in, workers_in, two_texts, text_and_number, texts_and_number, one_number, as_command, command_of, IsValueOf}
+use Rattle.ct_run.specs.Words.{Work, answer, best, certify, check, Command, on, make, serve, limit_in, workers_in, two_texts, text_and_number, texts_and_number, one_number, as_command, command_of, IsValueOf}
 use Rattle.ct_run.specs.Forms.{form_file, session_file}
 use Rattle.ct_run.specs.Outcome.{RunOutcome, bad_instance, bad_sessions, answered, served, Wrote, is_stop}
-use Rattle.ct_run.specs.Plan.{Plan, ends, by_value, script_plan, instance_plan, plan_of, plain_of}
+use Rattle.ct_run.specs.Plan.{Plan, ends, by_value, script_plan, instance_plan, is_batch, plan_of, batch_of, plain_of}
 use Rattle.ct_run.specs.Running.{HasBytes, Ends}
 use Rattle.ct_run.specs.Laws.{IsReadAs}
 use Rattle.ct_run.proofs.Within.{said-within, value-within}
-use Rattle.ct_promise.specs.Promise.{AreBytesOf, IsTrueRun, KeepsPromise, Promise, PlainPromise}
+use Rattle.ct_promise.specs.Promise.{AreBytesOf, IsTrueRun, KeepsPromise, Promise, BatchPromise, PlainPromise}
 use Rattle.ct_promise.proofs.Inputs.{file_is_form, file_is_script, served_file_is_read, answered_file_is_read}
 
 -- ---- the limit that words say
 
 abbrev HasLimit : Option Command → Type 0
-HasLimit (Some (on instance (answer sessions walks levels moves))) = moves ≤ MOVE_LIMIT
+HasLimit (Some (on instance (answer sessions walks levels batch moves))) = moves ≤ MOVE_LIMIT
 HasLimit (Some (serve instance sessions workers walks levels moves)) = moves ≤ MOVE_LIMIT
 HasLimit command = Unit {0}
 
@@ -55,10 +55,10 @@ mapped_has f (Some x) all = all x
 
 said_has_limit : (command : CommandName) (places : List WordPlace) (given : List WordGiven) → limit_in given ≤ MOVE_LIMIT → HasLimit (as_command command places given)
 said_has_limit names.Answer places given small =
-    mapped_has (λ (x : List ℕ × List ℕ). on x.0 (answer x.1 (has_name (codes "walks") given) (has_name (codes "levels") given) (limit_in given))) (two_texts places) (λ x. small)
+    mapped_has (λ (x : List ℕ × List ℕ). on x.0 (answer x.1 (has_name (codes "walks") given) (has_name (codes "levels") given) (has_name (codes "batch") given) (limit_in given))) (two_texts places) (λ x. small)
 said_has_limit names.Best places given small = mapped_has (λ (x : List ℕ × List ℕ × ℕ). on x.0 (best x.1 x.2 (limit_in given))) (texts_and_number places) (λ x. tt)
 said_has_limit names.Certify places given small = mapped_has (λ (x : List ℕ × ℕ). on x.0 (certify x.1 (limit_in given))) (text_and_number places) (λ x. tt)
-said_has_limit names.Check places given small = mapped_has (λ (x : List ℕ × List ℕ). on x.0 (check x.1)) (two_texts places) (λ x. tt)
+said_has_limit names.Check places given small = mapped_has (λ (x : List ℕ × List ℕ). on x.0 (check x.1 (has_name (codes "batch") given))) (two_texts places) (λ x. tt)
 said_has_limit names.Make places given small = mapped_has make (one_number places) (λ x. tt)
 said_has_limit names.Serve places given small =
     mapped_has (λ (x : List ℕ × List ℕ). serve x.0 x.1 (workers_in given) (has_name (codes "walks") given) (has_name (codes "levels") given) (limit_in given)) (two_texts places) (λ x. small)
@@ -70,12 +70,19 @@ command_has_limit words =
       | Some said ↦ λ is. said_has_limit said.command said.places said.given (limit_within said.given (said-within words said is).given)
     ] refl
 
+batch_has_limit : (o : Option Command) → HasLimit o → HasLimit (batch_of o)
+batch_has_limit None small = tt
+batch_has_limit (Some (on instance work)) small = small
+batch_has_limit (Some (make number)) small = tt
+batch_has_limit (Some (serve instance sessions workers walks levels moves)) small = tt
+
 plain_has_limit : (o : Option Command) → HasLimit o → HasLimit (plain_of o)
 plain_has_limit None small = tt
-plain_has_limit (Some (on instance (answer sessions walks levels moves))) small = small
-plain_has_limit (Some (on instance (best sessions count moves))) small = tt
-plain_has_limit (Some (on instance (certify grade moves))) small = tt
-plain_has_limit (Some (on instance (check ledger))) small = tt
+plain_has_limit (Some (on instance work)) small = by_flag (is_batch work)
+  where
+    by_flag : (b : Bool) → HasLimit (cond b None (Some (on instance work)))
+    by_flag true = tt
+    by_flag false = small
 plain_has_limit (Some (make number)) small = tt
 plain_has_limit (Some (serve instance sessions workers walks levels moves)) small = tt
 
@@ -161,17 +168,22 @@ module _ (told : List ℕ → Told) (old new : Option (List ℕ)) where
 
   keeps : (o : Option Command) → HasLimit o → Ends (plan_of o) told IsDone → KeepsPromise told old new o
   keeps None small ends_so = tt
-  keeps (Some (on instance (answer sessions walks levels moves))) small ends_so =
+  keeps (Some (on instance (answer sessions walks levels batch moves))) small ends_so =
       true_run instance sessions moves walks levels with_solves answered (λ f form script is done. answered_told f form moves small walks levels script is done) ends_so
   keeps (Some (on instance (best sessions count moves))) small ends_so = tt
   keeps (Some (on instance (certify grade moves))) small ends_so = tt
-  keeps (Some (on instance (check ledger))) small ends_so = tt
+  keeps (Some (on instance (check ledger batch))) small ends_so = tt
   keeps (Some (make number)) small ends_so = tt
   keeps (Some (serve instance sessions workers walks levels moves)) small ends_so =
       true_run instance sessions moves walks levels (λ script. script) served (λ f form script is done. served_told f form moves small walks levels script is done) ends_so
 
 pub promise_kept : Promise
 promise_kept words told old new ends_so = keeps told old new (command_of (map string_bytes words)) (command_has_limit (map string_bytes words)) ends_so
+
+pub batch_promise_kept : BatchPromise
+batch_promise_kept words told old new ends_so =
+    let command = command_of (map string_bytes words) in
+    keeps told old new (batch_of command) (batch_has_limit command (command_has_limit (map string_bytes words))) ends_so
 
 pub plain_promise_kept : PlainPromise
 plain_promise_kept words told old new ends_so =

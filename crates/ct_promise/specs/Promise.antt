@@ -16,7 +16,7 @@ use Rattle.ct_run.specs.declared.status.Status.TheVariants.{Done}
 use Rattle.ct_run.specs.Words.{answer, Command, on, serve, command_of}
 use Rattle.ct_run.specs.Forms.{form_file, session_file}
 use Rattle.ct_run.specs.Outcome.{Wrote}
-use Rattle.ct_run.specs.Plan.{plan_in, plain_plan_in, plain_of}
+use Rattle.ct_run.specs.Plan.{plan_in, batch_plan_in, batch_of, plain_plan_in, plain_of}
 use Rattle.ct_run.specs.Running.{Ends}
 use Rattle.ct_run.specs.Laws.{IsReadAs}
 
@@ -44,7 +44,7 @@ pub record IsTrueRun (told : List ℕ → Told) (old new : Option (List ℕ)) (i
 
 -- `answer` takes each ask as a solve, and `serve` the script as it stands; of other commands this says nothing
 abbrev pub KeepsPromise : (List ℕ → Told) → Option (List ℕ) → Option (List ℕ) → Option Command → Type 0
-KeepsPromise told old new (Some (on instance (answer sessions walks levels moves))) = IsTrueRun told old new instance sessions moves walks levels with_solves
+KeepsPromise told old new (Some (on instance (answer sessions walks levels batch moves))) = IsTrueRun told old new instance sessions moves walks levels with_solves
 KeepsPromise told old new (Some (serve instance sessions workers walks levels moves)) = IsTrueRun told old new instance sessions moves walks levels (λ script. script)
 KeepsPromise told old new command = Unit {0}
 
@@ -54,7 +54,13 @@ Promise =
     (words : List (String Global)) (told : List ℕ → Told) (old new : Option (List ℕ)) → Ends (plan_in words) told (Wrote Done old new) →
     KeepsPromise told old new (command_of (map string_bytes words))
 
--- and what `run_plain` ensures, for which the words of `serve` are none of a command
+-- and what `run_batch` ensures, for which the words of `serve` are none of a command
+abbrev pub BatchPromise : Type 0
+BatchPromise =
+    (words : List (String Global)) (told : List ℕ → Told) (old new : Option (List ℕ)) → Ends (batch_plan_in words) told (Wrote Done old new) →
+    KeepsPromise told old new (batch_of (command_of (map string_bytes words)))
+
+-- and what `run_plain` ensures, for which those with `--batch` are none either
 abbrev pub PlainPromise : Type 0
 PlainPromise =
     (words : List (String Global)) (told : List ℕ → Told) (old new : Option (List ℕ)) → Ends (plain_plan_in words) told (Wrote Done old new) →

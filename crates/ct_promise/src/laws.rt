@@ -1,7 +1,7 @@
 //! Laws of what is promised, as contracts of functions that do nothing.
 
 ghost use Rattle.ct_promise.specs.Inputs.{FileIsForm, FileIsScript, ServedFileIsRead, AnsweredFileIsRead};
-ghost use Rattle.ct_promise.specs.Promise.{Promise, PlainPromise};
+ghost use Rattle.ct_promise.specs.Promise.{Promise, BatchPromise, PlainPromise};
 ghost use Rattle.ct_promise.specs.Beside.{CheckedDecides, OneCertificate, OneSummary};
 
 /// A file of either notation that is accepted stands for a form, or for a script of at most 64 phases.
@@ -17,9 +17,11 @@ pub fn reports_of_files_are_read()
     ensures answered { AnsweredFileIsRead }
 {}
 
-/// What `run` of `ct_run` ensures where it ends as Done is enough for the promise, and so is what `run_plain` ensures.
+/// What `run` of `ct_run` ensures where it ends as Done is enough for the promise, and so is what `run_batch` and `run_plain`
+/// ensure.
 pub fn done_keeps_the_promise()
     ensures run { Promise }
+    ensures batch { BatchPromise }
     ensures plain { PlainPromise }
 {}
 

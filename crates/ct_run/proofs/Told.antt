@@ -75,13 +75,13 @@ IsRowSaid row = (words : List (List ℕ)) (places : List WordPlace) (given : Lis
 
 rows_said : AllByRecursion IsRowSaid commands
 rows_said = (
-  (λ words places given is. let x = two_said words places is in (_, ap (option_map (λ names. on names.0 (answer names.1 (has_name (codes "walks") given) (has_name (codes "levels") given) (limit_in given)))) x.1)),
+  (λ words places given is. let x = two_said words places is in (_, ap (option_map (λ names. on names.0 (answer names.1 (has_name (codes "walks") given) (has_name (codes "levels") given) (has_name (codes "batch") given) (limit_in given)))) x.1)),
   (
     (λ words places given is. let x = three_said _ words places is in (_, ap (option_map (λ words. on words.0 (best words.1 words.2 (limit_in given)))) x.1)),
     (
       (λ words places given is. let x = number_said _ words places is in (_, ap (option_map (λ words. on words.0 (certify words.1 (limit_in given)))) x.1)),
       (
-        (λ words places given is. let x = two_said words places is in (_, ap (option_map (λ names. on names.0 (check names.1))) x.1)),
+        (λ words places given is. let x = two_said words places is in (_, ap (option_map (λ names. on names.0 (check names.1 (has_name (codes "batch") given)))) x.1)),
         (
           (λ words places given is. let x = number_alone _ words places is in (_, ap (option_map make) x.1)),
           (

@@ -206,13 +206,13 @@ workers_value n low high = (λ other. absurd (omega (arith, ap length other)), �
 -- a place for a text, a flag, a number in its bounds
 rows-within : AllByRecursion IsRowWithin commands
 rows-within = (
-  record { places = (tt, (tt, tt)); options = (tt, (tt, (moves_value, tt))) },
+  record { places = (tt, (tt, tt)); options = (tt, (tt, (tt, (moves_value, tt)))) },
   (
     record { places = (tt, (tt, (λ n low high. (low, high), tt))); options = (moves_value, tt) },
     (
       record { places = (tt, (λ n low high. high, tt)); options = (moves_value, tt) },
       (
-        record { places = (tt, (tt, tt)); options = tt },
+        record { places = (tt, (tt, tt)); options = (tt, tt) },
         (
           record { places = (λ n low high. tt, tt); options = tt },
           (record { places = (tt, (tt, tt)); options = (workers_value, (tt, (tt, (moves_value, tt)))) }, tt),

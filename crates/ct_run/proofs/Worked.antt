@@ -38,11 +38,11 @@ too_long_line = (refl, refl)
 
 -- ---- words
 
-three_words : command_of (codes "answer" ∷ codes "-" ∷ codes "S" ∷ []) ≡ Some (on (codes "-") (answer (codes "S") false false 4096))
+three_words : command_of (codes "answer" ∷ codes "-" ∷ codes "S" ∷ []) ≡ Some (on (codes "-") (answer (codes "S") false false false 4096))
 unfolding parts_of places_of
 three_words = refl
 
-options_of_answer : command_of (codes "answer" ∷ codes "--moves=2" ∷ codes "--" ∷ codes "K" ∷ codes "-S" ∷ []) ≡ Some (on (codes "K") (answer (codes "-S") false false 2))
+options_of_answer : command_of (codes "answer" ∷ codes "--moves=2" ∷ codes "--" ∷ codes "K" ∷ codes "-S" ∷ []) ≡ Some (on (codes "K") (answer (codes "-S") false false false 2))
 unfolding parts_of places_of natural_of
 options_of_answer = refl
 
@@ -105,12 +105,12 @@ no_usage_of_listing (Ok script) c n count told old new wrote = by_count (nat_lt 
 no_usage_of_listing (Err fault) c n count told old new wrote = let no : Usage ≡ BadSessions = wrote.1.0.0 in cc
 
 no_usage_by_work : (work : Work) (f : Form) (told : List ℕ → Told) (old new : Option (List ℕ)) → Ends (work_plan work f) told (Wrote Usage old new) → ⊥
-no_usage_by_work (answer sessions walks levels moves) f told old new wrote =
+no_usage_by_work (answer sessions walks levels batch moves) f told old new wrote =
     of_bytes (told sessions) _ ⊥ (λ bytes. no_usage_by_sessions (session_file f.rows bytes) (case_of (record { limit = moves; walks = walks; levels = levels }) f) told old new) wrote
 no_usage_by_work (best sessions count moves) f told old new wrote =
     of_bytes (told sessions) _ ⊥ (λ bytes. no_usage_of_listing (session_file f.rows bytes) (case_of (record { limit = moves; walks = false; levels = false }) f) (length f.columns) count told old new) wrote
 no_usage_by_work (certify grade moves) f told old new wrote = no_usage_of_grade (full_grade_up_to (equal_of f) moves grade) (equal_of f) grade old new wrote
-no_usage_by_work (check ledger) f told old new wrote = of_bytes (told ledger) _ ⊥ (λ bytes w. no_usage_of_ledger (equal_of f) bytes w.0 w.1.0) wrote
+no_usage_by_work (check ledger batch) f told old new wrote = of_bytes (told ledger) _ ⊥ (λ bytes w. no_usage_of_ledger (equal_of f) bytes w.0 w.1.0) wrote
 
 no_usage : (read : Result Form Fault) (work : Work) (told : List ℕ → Told) (old new : Option (List ℕ)) →
     Ends (by_value bad_instance (work_plan work) read) told (Wrote Usage old new) → ⊥

@@ -6,10 +6,10 @@ use Rattle.ct_run.specs.declared.words.Command.TheVariants.{On, Make, Serve}
 use Rattle.ct_run.specs.Words.{Work, answer, best, certify, check, Command, on, make, serve}
 
 abbrev pub work_seen : RustWork → Work
-work_seen (Answer sessions walks levels moves) = answer sessions.now walks levels moves
+work_seen (Answer sessions walks levels batch moves) = answer sessions.now walks levels batch moves
 work_seen (Best sessions count moves) = best sessions.now count moves
 work_seen (Certify grade moves) = certify grade moves
-work_seen (Check ledger) = check ledger.now
+work_seen (Check ledger batch) = check ledger.now batch
 
 abbrev pub seen : Rust → Command
 seen (On instance work) = on instance.now (work_seen work)

@@ -1,5 +1,5 @@
 -- What a command does: it asks for files by their names, one after another, and comes to an outcome.
-use Rattle.std.specs.Prelude.{ℕ, ◌*◌, nat_lt, cond, length, false, List, Option, Some, None, Result, Ok, Err, map, string_bytes, String}
+use Rattle.std.specs.Prelude.{ℕ, ◌*◌, nat_lt, cond, length, Bool, false, List, Option, Some, None, Result, Ok, Err, map, string_bytes, String}
 use Rattle.std.specs.declared.alloc.Global.{Global}
 use Rattle.ct_input.specs.declared.fault.Fault.{Fault}
 use Rattle.ct_input.specs.declared.script.Script.{Script}
@@ -65,12 +65,12 @@ certify_plan grade limit i = ends (ledger_or_full i grade (full_grade_up_to i li
 abbrev pub check_plan : List ℕ → Problem → Plan
 check_plan ledger i = asks ledger (λ bytes. ends (checked i bytes))
 
--- what is done with the form; a ledger is that of its equality form
+-- what is done with the form, in however many threads; a ledger is that of its equality form
 abbrev pub work_plan : Work → Form → Plan
-work_plan (answer sessions walks levels moves) f = sessions_plan sessions (record { limit = moves; walks = walks; levels = levels }) f
+work_plan (answer sessions walks levels batch moves) f = sessions_plan sessions (record { limit = moves; walks = walks; levels = levels }) f
 work_plan (best sessions count moves) f = best_plan sessions count (record { limit = moves; walks = false; levels = false }) f
 work_plan (certify grade moves) f = certify_plan grade moves (equal_of f)
-work_plan (check ledger) f = check_plan ledger (equal_of f)
+work_plan (check ledger batch) f = check_plan ledger (equal_of f)
 
 -- goes on with the form of an instance file
 abbrev pub instance_plan : List ℕ → (Form → Plan) → Plan
@@ -86,10 +86,23 @@ abbrev pub plan_of : Option Command → Plan
 plan_of None = ends usage
 plan_of (Some command) = command_plan command
 
--- every command but `serve`, which takes threads
+-- whether several threads may do the work
+abbrev pub is_batch : Work → Bool
+is_batch (answer sessions walks levels batch moves) = batch
+is_batch (check ledger batch) = batch
+is_batch work = false
+
+-- the commands whose threads never wait: all but `serve`
+abbrev pub batch_of : Option Command → Option Command
+batch_of None = None
+batch_of (Some (on instance work)) = Some (on instance work)
+batch_of (Some (make number)) = Some (make number)
+batch_of (Some (serve instance sessions workers walks levels moves)) = None
+
+-- the commands of one thread: of those, all that aren't told to take several
 abbrev pub plain_of : Option Command → Option Command
 plain_of None = None
-plain_of (Some (on instance work)) = Some (on instance work)
+plain_of (Some (on instance work)) = cond (is_batch work) None (Some (on instance work))
 plain_of (Some (make number)) = Some (make number)
 plain_of (Some (serve instance sessions workers walks levels moves)) = None
 
@@ -98,5 +111,9 @@ abbrev pub plan_in : List (String Global) → Plan
 plan_in words = plan_of (command_of (map string_bytes words))
 
 -- the same, but the words of `serve` are taken as none of a command
+abbrev pub batch_plan_in : List (String Global) → Plan
+batch_plan_in words = plan_of (batch_of (command_of (map string_bytes words)))
+
+-- and those with `--batch` too
 abbrev pub plain_plan_in : List (String Global) → Plan
 plain_plan_in words = plan_of (plain_of (command_of (map string_bytes words)))

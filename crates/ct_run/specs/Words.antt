@@ -10,12 +10,12 @@ use Rattle.ct_words.specs.declared.table.CommandName.{CommandName}
 use Rattle.ct_words.specs.declared.table.CommandName.TheVariants.{Answer, Best, Certify, Check, Make, Serve}
 use Rattle.ct_run.specs.declared.words.TheConstants.{WORKER_DEFAULT}
 
--- what is done with an instance in one thread; `moves` is the limit on the number of moves
+-- what is done with an instance; `moves` is the limit on the number of moves, and `batch` says that several threads may do it
 pub data Work : Type 0 where
-  answer : (sessions : List ℕ) (walks levels : Bool) (moves : ℕ) → Work
+  answer : (sessions : List ℕ) (walks levels batch : Bool) (moves : ℕ) → Work
   best : (sessions : List ℕ) (count moves : ℕ) → Work
   certify : (grade moves : ℕ) → Work
-  check : (ledger : List ℕ) → Work
+  check : (ledger : List ℕ) (batch : Bool) → Work
 
 -- a command with the names of its files and what its options say
 pub data Command : Type 0 where
@@ -49,10 +49,10 @@ one_number _ = None
 
 -- what was said, as a command
 abbrev pub as_command : CommandName → List WordPlace → List WordGiven → Option Command
-as_command Answer places given = option_map (λ names. on names.0 (answer names.1 (has_name (codes "walks") given) (has_name (codes "levels") given) (limit_in given))) (two_texts places)
+as_command Answer places given = option_map (λ names. on names.0 (answer names.1 (has_name (codes "walks") given) (has_name (codes "levels") given) (has_name (codes "batch") given) (limit_in given))) (two_texts places)
 as_command Best places given = option_map (λ words. on words.0 (best words.1 words.2 (limit_in given))) (texts_and_number places)
 as_command Certify places given = option_map (λ words. on words.0 (certify words.1 (limit_in given))) (text_and_number places)
-as_command Check places given = option_map (λ names. on names.0 (check names.1)) (two_texts places)
+as_command Check places given = option_map (λ names. on names.0 (check names.1 (has_name (codes "batch") given))) (two_texts places)
 as_command Make places given = option_map make (one_number places)
 as_command Serve places given = option_map (λ names. serve names.0 names.1 (workers_in given) (has_name (codes "walks") given) (has_name (codes "levels") given) (limit_in given)) (two_texts places)
 
@@ -90,10 +90,10 @@ pub record HasNumbersWithin (said : WordsSaid) : Type 0 where
 
 -- the same of a command
 abbrev pub IsWorkWithin : Work → Type 0
-IsWorkWithin (answer sessions walks levels moves) = IsLimit moves
+IsWorkWithin (answer sessions walks levels batch moves) = IsLimit moves
 IsWorkWithin (best sessions count moves) = IsBestCount count × IsLimit moves
 IsWorkWithin (certify grade moves) = (grade ≤ GRADE_LIMIT) × IsLimit moves
-IsWorkWithin (check ledger) = Unit {0}
+IsWorkWithin (check ledger batch) = Unit {0}
 
 abbrev pub IsCommandWithin : Command → Type 0
 IsCommandWithin (on instance work) = IsWorkWithin work

@@ -3,13 +3,13 @@ ghost use Rattle.std.specs.Prelude.{◌≡◌, ◌≤◌, false, ℕ, List, IfSo
 ghost use Rattle.ct_run.specs.Words.{IsCommandWithin};
 ghost use Rattle.ct_run.specs.Commands.{seen};
 ghost use Rattle.ct_run.specs.Outcome.{Wrote, is_stop};
-ghost use Rattle.ct_run.specs.Plan.{plan_of, plan_in, plain_plan_in};
+ghost use Rattle.ct_run.specs.Plan.{plan_of, plan_in, batch_plan_in, plain_plan_in};
 ghost use Rattle.ct_run.specs.Running.{Ends};
 ghost use Rattle.ct_run.specs.Stopping.{Ran};
 ghost use Rattle.ct_run.specs.Following.{Follows};
 
 use crate::ending::Ending;
-use crate::plain::plain_ending;
+use crate::plain::{batch_ending, plain_ending};
 use crate::serving::serve_ending;
 use crate::status::Status;
 use crate::stop::Stop;
@@ -34,6 +34,23 @@ fn plain_run_ending<S: Shelf>(
 {
     match command_in(alloc, words) {
         Ok(command) => plain_ending(alloc, command, shelf),
+        Err(_) => Err(Stop::Memory),
+    }
+}
+
+// How a run whose threads never wait ends before it writes.
+fn batch_run_ending<R: Threads + Sync, S: Shelf>(
+    rt: &R,
+    alloc: Global,
+    words: &[String],
+    shelf: &mut S,
+) -> Result<Ending, Stop>
+    ensures ran { Ran (batch_plan_in words.now) (S.told shelf.old) (S.faults shelf.old) (S.faults shelf.new) result }
+    ensures kept { S.told shelf.new ≡ S.told shelf.old }
+    ensures later { (name : List ℕ) → S.faults shelf.old name ≤ S.faults shelf.new name }
+{
+    match command_in(alloc, words) {
+        Ok(command) => batch_ending(rt, alloc, command, shelf),
         Err(_) => Err(Stop::Memory),
     }
 }
@@ -70,7 +87,7 @@ fn command_ending<R: Threads + Wait + Sync, S: Shelf, G: Gate + Sync>(
             serve_ending(rt, alloc, instance, sessions, workers, options, shelf, gate)
         }
         Some(Command::On { .. } | Command::Make { .. }) | None => {
-            plain_ending(alloc, command, shelf)
+            batch_ending(rt, alloc, command, shelf)
         }
     }
 }
@@ -97,7 +114,8 @@ fn run_ending<R: Threads + Wait + Sync, S: Shelf, G: Gate + Sync>(
 /// refusal: `answer INSTANCE SESSIONS` answers each request of the session file, an ask as a solve; `certify INSTANCE GRADE`
 /// prints the ledger of the test set of a grade, `check INSTANCE LEDGER` checks a ledger, and `make NUMBER` answers the
 /// requests of the input that is made of a number, and prints their summary. `--walks` shows the walk of each answer,
-/// `--levels` the level of each phase, and `--moves N` keeps test lists to N moves. The words of `serve` are Usage here.
+/// `--levels` the level of each phase, and `--moves N` keeps test lists to N moves. The words of `serve` and those with
+/// `--batch` are Usage here.
 ///
 /// It always returns. The files are held whole, and so is the text before the first write. The time is that of one
 /// completion up to the greatest grade that is asked for, and of a walk for each request or of a pair of walks for each
@@ -118,7 +136,30 @@ pub fn run_plain<S: Shelf, O: Sink>(
     finished(ended, out)
 }
 
-/// Runs the command that the words after the program's name are, each command but `serve` as [`run_plain`] does.
+/// Runs the command that the words after the program's name are, but not `serve`, as [`run_plain`] does. With `--batch` the
+/// requests of `answer` and the entries of `check` are dealt out to as many threads as there are processors: status and text
+/// are those without it.
+///
+/// It never waits: where no thread can be made, the caller does the work. Memory is that of [`run_plain`] and, with
+/// `--batch`, that of all answers with their walks twice, or of a few bytes an entry.
+pub fn run_batch<R: Threads + Sync, S: Shelf, O: Sink>(
+    rt: &R,
+    alloc: Global,
+    words: &[String],
+    shelf: &mut S,
+    out: &mut O,
+) -> Status
+    // A status that isn't one of three stops is that of what the words and files come to, and a whole text of it was written.
+    ensures written { is_stop result ≡ false → Ends (batch_plan_in words.now) (S.told shelf.old) (Wrote result (O.held out.old) (O.held out.new)) }
+
+    // Each status comes exactly where the words and files say so, a stop only with its cause; files are asked for in order.
+    ensures follows { Follows S.told S.faults O.held O.faults (batch_plan_in words.now) shelf.old shelf.new out.old out.new result }
+{
+    let ended = batch_run_ending(rt, alloc, words, shelf);
+    finished(ended, out)
+}
+
+/// Runs the command that the words after the program's name are, each command but `serve` as [`run_batch`] does.
 /// `serve INSTANCE SESSIONS` answers the session file by sessions, while workers complete the test set up to the target of
 /// their phase, all of them in threads of their own; `--workers N` says how many workers, 0 to 16, and 4 is what holds
 /// without it. An ask that no version covers yet is told so. `--walks`, `--levels` and `--moves N` are as for `answer`.

@@ -8,9 +8,10 @@ ghost use Rattle.ct_run.specs.Checked.{reason_text, accepted_text, refused_text,
 ghost use Rattle.ct_run.specs.Stopping.{Fits};
 ghost use Rattle.ct_input.specs.Script.{IsScript};
 
+use crate::crew::Crew;
 use crate::status::Status;
 use crate::telling::{told_of, wide_script};
-use ct_answer::{Options, answer};
+use ct_answer::Options;
 use ct_checker::Reason;
 use ct_input::{Fault, Script, push_fault};
 use ct_form::Form;
@@ -63,7 +64,8 @@ pub fn bad_sessions_ending(alloc: Global, fault: &Fault) -> Result<Ending, Alloc
 }
 
 /// The ending of `answer`.
-pub fn report_ending(
+pub fn report_ending<C: Crew>(
+    crew: &C,
     alloc: Global,
     form: &Form,
     script: Script,
@@ -74,7 +76,7 @@ pub fn report_ending(
     ensures { IfOk result (λ ending. Fits (answered (case_of options form.now) script) ending) }
 {
     let wide = wide_script(alloc, form, script)?;
-    let report = answer(alloc, Arc::try_clone(form.equal())?, &wide, options)?;
+    let report = crew.answer(alloc, Arc::try_clone(form.equal())?, &wide, options)?;
     let told = told_of(alloc, form, report)?;
     Ok(Ending {
         status: Status::Done,

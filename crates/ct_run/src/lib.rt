@@ -10,6 +10,7 @@
 mod calls;
 mod certifying;
 mod checking;
+mod crew;
 mod ending;
 pub mod laws;
 mod listing;
@@ -24,5 +25,5 @@ mod telling;
 mod words;
 mod writing;
 
-pub use calls::{run, run_plain};
+pub use calls::{run, run_batch, run_plain};
 pub use status::Status;

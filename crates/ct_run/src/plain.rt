@@ -1,13 +1,14 @@
-//! The commands that take no threads.
+//! The commands whose threads, if they take any, never wait.
 ghost use Rattle.std.specs.Prelude.{◌≡◌, ◌≤◌, false, ℕ, List, IfSome, option_map};
 ghost use Rattle.ct_form.specs.EqualityForms.{equal_of};
 ghost use Rattle.ct_run.specs.Words.{IsLimit, IsBestCount, IsWorkWithin, IsCommandWithin};
 ghost use Rattle.ct_run.specs.Commands.{work_seen, seen};
-ghost use Rattle.ct_run.specs.Plan.{sessions_plan, best_plan, check_plan, work_plan, instance_plan, plan_of, plain_of};
+ghost use Rattle.ct_run.specs.Plan.{sessions_plan, best_plan, check_plan, work_plan, instance_plan, plan_of, batch_of, plain_of};
 ghost use Rattle.ct_run.specs.Stopping.{Ran};
 
 use crate::certifying::certify_ending;
 use crate::checking::check_ending;
+use crate::crew::{Crew, OneThread, Several};
 use crate::ending::{Ending, report_ending, usage_ending};
 use crate::listing::best_ending;
 use crate::making::made_ending;
@@ -20,9 +21,11 @@ use ct_input::limits::LEDGER_FILE_LIMIT;
 use ct_outside::Shelf;
 use std::alloc::Global;
 use std::sync::Arc;
+use std::thread::Threads;
 
 // The ending of `answer` on the session file of a form.
-fn sessions_ending<S: Shelf>(
+fn sessions_ending<C: Crew, S: Shelf>(
+    crew: &C,
     alloc: Global,
     form: &Form,
     sessions: &str,
@@ -35,7 +38,7 @@ fn sessions_ending<S: Shelf>(
     ensures later { (name : List ℕ) → S.faults shelf.old name ≤ S.faults shelf.new name }
 {
     let script = script_at(alloc, form.rows(), sessions, shelf)?;
-    Ok(report_ending(alloc, form, script, options)?)
+    Ok(report_ending(crew, alloc, form, script, options)?)
 }
 
 // The ending of `best` on the session file of a form.
@@ -59,7 +62,8 @@ fn listed_ending<S: Shelf>(
 }
 
 // The ending of `check` on the ledger file.
-fn ledger_ending<S: Shelf>(
+fn ledger_ending<C: Crew, S: Shelf>(
+    crew: &C,
     alloc: Global,
     form: &Form,
     ledger: &str,
@@ -70,12 +74,13 @@ fn ledger_ending<S: Shelf>(
     ensures later { (name : List ℕ) → S.faults shelf.old name ≤ S.faults shelf.new name }
 {
     let bytes = file_at(alloc, ledger, LEDGER_FILE_LIMIT as u64, shelf)?;
-    let ending = check_ending(alloc, form.equal(), &bytes)?;
+    let ending = check_ending(crew, alloc, form.equal(), &bytes)?;
     Ok(ending)
 }
 
 // The ending of the work on a form.
-fn work_ending<S: Shelf>(
+fn work_ending<C: Crew, S: Shelf>(
+    crew: &C,
     alloc: Global,
     work: Work<'_>,
     form: &Form,
@@ -92,13 +97,14 @@ fn work_ending<S: Shelf>(
             walks,
             levels,
             moves,
+            ..
         } => {
             let options = Options {
                 limit: moves,
                 walks,
                 levels,
             };
-            sessions_ending(alloc, form, sessions, options, shelf)
+            sessions_ending(crew, alloc, form, sessions, options, shelf)
         }
         Work::Best {
             sessions,
@@ -116,12 +122,13 @@ fn work_ending<S: Shelf>(
             let equal = Arc::try_clone(form.equal())?;
             Ok(certify_ending(alloc, equal, grade, moves)?)
         }
-        Work::Check { ledger } => ledger_ending(alloc, form, ledger, shelf),
+        Work::Check { ledger, .. } => ledger_ending(crew, alloc, form, ledger, shelf),
     }
 }
 
 // The ending of the work on the form of an instance file.
-fn instance_ending<S: Shelf>(
+fn instance_ending<C: Crew, S: Shelf>(
+    crew: &C,
     alloc: Global,
     instance: &str,
     work: Work<'_>,
@@ -133,10 +140,48 @@ fn instance_ending<S: Shelf>(
     ensures later { (name : List ℕ) → S.faults shelf.old name ≤ S.faults shelf.new name }
 {
     let form = form_at(alloc, instance, shelf)?;
-    work_ending(alloc, work, &form, shelf)
+    work_ending(crew, alloc, work, &form, shelf)
 }
 
-/// The ending of a command but `serve`, or of words that are none.
+// The ending of a command but `serve`, or of words that are none.
+fn crew_ending<C: Crew, S: Shelf>(
+    crew: &C,
+    alloc: Global,
+    command: Option<Command<'_>>,
+    shelf: &mut S,
+) -> Result<Ending, Stop>
+    requires { IfSome command (λ known. IsCommandWithin (seen known)) }
+    ensures ran { Ran (plan_of (batch_of (option_map seen command.entry))) (S.told shelf.old) (S.faults shelf.old) (S.faults shelf.new) result }
+    ensures kept { S.told shelf.new ≡ S.told shelf.old }
+    ensures later { (name : List ℕ) → S.faults shelf.old name ≤ S.faults shelf.new name }
+{
+    match command {
+        Some(Command::On { instance, work }) => instance_ending(crew, alloc, instance, work, shelf),
+        Some(Command::Make { number }) => Ok(made_ending(alloc, number)?),
+        Some(Command::Serve { .. }) | None => Ok(usage_ending(alloc)?),
+    }
+}
+
+// The command, where one thread does it.
+fn in_one_thread(command: Option<Command<'_>>) -> Option<Command<'_>>
+    requires { IfSome command (λ known. IsCommandWithin (seen known)) }
+    ensures plain { option_map seen result ≡ plain_of (option_map seen command.entry) }
+    ensures within { IfSome result (λ known. IsCommandWithin (seen known)) }
+{
+    match command {
+        Some(Command::On { instance, work }) => {
+            if work.is_batch() {
+                None
+            } else {
+                Some(Command::On { instance, work })
+            }
+        }
+        Some(Command::Make { number }) => Some(Command::Make { number }),
+        Some(Command::Serve { .. }) | None => None,
+    }
+}
+
+/// The ending of a command that one thread does, or of words that are none.
 pub fn plain_ending<S: Shelf>(
     alloc: Global,
     command: Option<Command<'_>>,
@@ -147,9 +192,32 @@ pub fn plain_ending<S: Shelf>(
     ensures kept { S.told shelf.new ≡ S.told shelf.old }
     ensures later { (name : List ℕ) → S.faults shelf.old name ≤ S.faults shelf.new name }
 {
+    crew_ending(&OneThread, alloc, in_one_thread(command), shelf)
+}
+
+// Whether the command is one that several threads may do.
+fn is_batch(command: &Option<Command<'_>>) -> bool {
     match command {
-        Some(Command::On { instance, work }) => instance_ending(alloc, instance, work, shelf),
-        Some(Command::Make { number }) => Ok(made_ending(alloc, number)?),
-        Some(Command::Serve { .. }) | None => Ok(usage_ending(alloc)?),
+        Some(Command::On { work, .. }) => work.is_batch(),
+        Some(Command::Make { .. } | Command::Serve { .. }) | None => false,
+    }
+}
+
+/// The ending of a command but `serve`, or of words that are none, in several threads where the words say so.
+pub fn batch_ending<R: Threads + Sync, S: Shelf>(
+    rt: &R,
+    alloc: Global,
+    command: Option<Command<'_>>,
+    shelf: &mut S,
+) -> Result<Ending, Stop>
+    requires { IfSome command (λ known. IsCommandWithin (seen known)) }
+    ensures ran { Ran (plan_of (batch_of (option_map seen command.entry))) (S.told shelf.old) (S.faults shelf.old) (S.faults shelf.new) result }
+    ensures kept { S.told shelf.new ≡ S.told shelf.old }
+    ensures later { (name : List ℕ) → S.faults shelf.old name ≤ S.faults shelf.new name }
+{
+    if is_batch(&command) {
+        crew_ending(&Several { rt }, alloc, command, shelf)
+    } else {
+        crew_ending(&OneThread, alloc, command, shelf)
     }
 }

@@ -3,17 +3,18 @@ ghost use Rattle.std.specs.Prelude.{◌≡◌, ◌≤◌, map, option_map, strin
 ghost use Rattle.ct_words.specs.Role.{given_seen};
 ghost use Rattle.ct_words.specs.Said.{place_seen, seen as said_seen};
 ghost use Rattle.ct_run.specs.Words.{IsLimit, HasNumbersWithin, IsCommandWithin, limit_in, workers_in, two_texts as two_texts_of, text_and_number as text_and_number_of, texts_and_number as texts_and_number_of, one_number as one_number_of, as_command, command_of};
-ghost use Rattle.ct_run.specs.Commands.{seen};
+ghost use Rattle.ct_run.specs.Commands.{work_seen, seen};
+ghost use Rattle.ct_run.specs.Plan.{is_batch as is_batch_work};
 ghost use Rattle.ct_vectors.specs.declared.limits.TheConstants.{WORKER_LIMIT};
 
 use ct_vectors::limits::MOVE_LIMIT;
-use ct_words::{CommandName, Place, Said, said_in};
+use ct_words::{CommandName, Positional, Said, said_in};
 use std::alloc::{AllocError, Global};
 
 /// The number of workers where the words don't say it.
 pub const WORKER_DEFAULT: u64 = 4;
 
-/// What is done with an instance in one thread; `moves` is the limit on the number of moves.
+/// What is done with an instance; `moves` is the limit on the number of moves, and `batch` says that several threads may do it.
 #[derive(Clone, Copy, Debug)]
 pub enum Work<'a> {
     /// Answers the requests of a session file.
@@ -21,6 +22,7 @@ pub enum Work<'a> {
         sessions: &'a str,
         walks: bool,
         levels: bool,
+        batch: bool,
         moves: u32,
     },
     /// Gives the least solutions of each request of a session file, at most `count`.
@@ -37,7 +39,20 @@ pub enum Work<'a> {
     /// Checks a ledger.
     Check {
         ledger: &'a str,
+        batch: bool,
     },
+}
+
+impl Work<'_> {
+    /// Whether several threads may do it.
+    pub fn is_batch(&self) -> bool
+        ensures { result ≡ is_batch_work (work_seen self.now) }
+    {
+        match *self {
+            Work::Answer { batch, .. } | Work::Check { batch, .. } => batch,
+            Work::Best { .. } | Work::Certify { .. } => false,
+        }
+    }
 }
 
 /// A command, with the names of its files.
@@ -64,45 +79,45 @@ pub enum Command<'a> {
 }
 
 // The two words, where both are texts.
-fn two_texts<'a>(places: &[Place<'a>]) -> Option<(&'a str, &'a str)>
+fn two_texts<'a>(places: &[Positional<'a>]) -> Option<(&'a str, &'a str)>
     ensures { option_map (λ words. (words.0.now, words.1.now)) result ≡ two_texts_of (map place_seen places.now) }
 {
     match places {
-        [Place::Text(first), Place::Text(second)] => Some((*first, *second)),
+        [Positional::Text(first), Positional::Text(second)] => Some((*first, *second)),
         _ => None,
     }
 }
 
 // The two words, where the second is a number.
-fn text_and_number<'a>(places: &[Place<'a>]) -> Option<(&'a str, u64)>
+fn text_and_number<'a>(places: &[Positional<'a>]) -> Option<(&'a str, u64)>
     ensures { option_map (λ words. (words.0.now, words.1)) result ≡ text_and_number_of (map place_seen places.now) }
 {
     match places {
-        [Place::Text(first), Place::Number(second)] => Some((*first, *second)),
+        [Positional::Text(first), Positional::Number(second)] => Some((*first, *second)),
         _ => None,
     }
 }
 
 // The three words, where the first two are texts and the third is a number.
-fn texts_and_number<'a>(places: &[Place<'a>]) -> Option<(&'a str, &'a str, u64)>
+fn texts_and_number<'a>(places: &[Positional<'a>]) -> Option<(&'a str, &'a str, u64)>
     ensures { option_map (λ words. (words.0.now, words.1.now, words.2)) result ≡ texts_and_number_of (map place_seen places.now) }
 {
     match places {
         [
-            Place::Text(first),
-            Place::Text(second),
-            Place::Number(third),
+            Positional::Text(first),
+            Positional::Text(second),
+            Positional::Number(third),
         ] => Some((*first, *second, *third)),
         _ => None,
     }
 }
 
 // The one word, where it is a number.
-fn one_number(places: &[Place<'_>]) -> Option<u64>
+fn one_number(places: &[Positional<'_>]) -> Option<u64>
     ensures { result ≡ one_number_of (map place_seen places.now) }
 {
     match places {
-        [Place::Number(only)] => Some(*only),
+        [Positional::Number(only)] => Some(*only),
         _ => None,
     }
 }
@@ -145,6 +160,7 @@ fn command_said<'a>(said: &Said<'a>) -> Option<Command<'a>>
                 sessions,
                 walks: said.has("walks"),
                 levels: said.has("levels"),
+                batch: said.has("batch"),
                 moves,
             };
             Some(Command::On { instance, work })
@@ -165,7 +181,10 @@ fn command_said<'a>(said: &Said<'a>) -> Option<Command<'a>>
         }
         CommandName::Check => {
             let (instance, ledger) = two_texts(&said.places)?;
-            let work = Work::Check { ledger };
+            let work = Work::Check {
+                ledger,
+                batch: said.has("batch"),
+            };
             Some(Command::On { instance, work })
         }
         CommandName::Make => {

@@ -7,8 +7,8 @@ use Rattle.ct_words.specs.Role.{WordGiven, number_in, given_seen, ◌>>=◌}
 use Rattle.ct_words.specs.Parts.{WordParts, parts_of, are_distinct}
 use Rattle.ct_words.specs.declared.table.Bounds.{Bounds}
 use Rattle.ct_words.specs.declared.table.CommandName.{CommandName}
-use Rattle.ct_words.specs.declared.said.Place.{Place}
-use Rattle.ct_words.specs.declared.said.Place.TheVariants.{Text, Number}
+use Rattle.ct_words.specs.declared.said.Positional.{Positional}
+use Rattle.ct_words.specs.declared.said.Positional.TheVariants.{Text, Number}
 use Rattle.ct_words.specs.declared.said.Said.{Said}
 
 -- a positional word
@@ -22,7 +22,7 @@ pub record WordsSaid : Type 0 where
   pub places : List WordPlace
   pub given : List WordGiven
 
-abbrev pub place_seen : Place → WordPlace
+abbrev pub place_seen : Positional → WordPlace
 place_seen (Text word) = text word.now
 place_seen (Number n) = number n
 

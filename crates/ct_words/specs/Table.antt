@@ -49,10 +49,10 @@ any_number = from_to 0 18446744073709551615
 -- answer INSTANCE SESSIONS, best INSTANCE SESSIONS COUNT, certify INSTANCE GRADE, check INSTANCE LEDGER, make NUMBER, serve INSTANCE SESSIONS
 abbrev pub commands : List WordCommand
 commands =
-    record { command = Answer; name = codes "answer"; places = any_text ∷ any_text ∷ []; options = flag (codes "walks") ∷ flag (codes "levels") ∷ moves ∷ [] }
+    record { command = Answer; name = codes "answer"; places = any_text ∷ any_text ∷ []; options = flag (codes "walks") ∷ flag (codes "levels") ∷ flag (codes "batch") ∷ moves ∷ [] }
     ∷ record { command = Best; name = codes "best"; places = any_text ∷ any_text ∷ from_to 1 100 ∷ []; options = moves ∷ [] }
     ∷ record { command = Certify; name = codes "certify"; places = any_text ∷ from_to 0 GRADE_LIMIT ∷ []; options = moves ∷ [] }
-    ∷ record { command = Check; name = codes "check"; places = any_text ∷ any_text ∷ []; options = [] }
+    ∷ record { command = Check; name = codes "check"; places = any_text ∷ any_text ∷ []; options = flag (codes "batch") ∷ [] }
     ∷ record { command = Make; name = codes "make"; places = any_number ∷ []; options = [] }
     ∷ record { command = Serve; name = codes "serve"; places = any_text ∷ any_text ∷ []; options = workers ∷ flag (codes "walks") ∷ flag (codes "levels") ∷ moves ∷ [] }
     ∷ []

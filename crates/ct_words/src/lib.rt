@@ -11,5 +11,5 @@ mod said;
 mod table;
 
 pub use role::Given;
-pub use said::{Place, Said, said_by, said_in};
+pub use said::{Positional, Said, said_by, said_in};
 pub use table::{Bounds, COMMANDS, CommandName, CommandRow, OptionRow};

@@ -14,7 +14,7 @@ use std::alloc::{AllocError, Global};
 
 /// A positional word.
 #[derive(Clone, Copy, Debug)]
-pub enum Place<'a> {
+pub enum Positional<'a> {
     /// As it was said.
     Text(&'a str),
     /// A number within the bounds of its place.
@@ -25,7 +25,7 @@ pub enum Place<'a> {
 #[derive(Drop)]
 pub struct Said<'a> {
     pub command: CommandName,
-    pub places: Vec<Place<'a>>,
+    pub places: Vec<Positional<'a>>,
     pub given: Vec<Given>,
 }
 
@@ -49,13 +49,13 @@ impl<'a> Said<'a> {
     }
 }
 
-fn place_in<'a>(bounds: Option<Bounds>, word: &'a str) -> Option<Place<'a>>
+fn place_in<'a>(bounds: Option<Bounds>, word: &'a str) -> Option<Positional<'a>>
     ensures { option_map place_seen result ≡ place_of bounds word.entry.now }
 {
     match bounds {
-        None => Some(Place::Text(word)),
+        None => Some(Positional::Text(word)),
         Some(bounds) => match number_of(bounds, word.as_bytes()) {
-            Some(number) => Some(Place::Number(number)),
+            Some(number) => Some(Positional::Number(number)),
             None => None,
         },
     }
@@ -66,7 +66,7 @@ fn places_in<'a>(
     alloc: Global,
     wanted: &[Option<Bounds>],
     words: &[&'a str],
-) -> Result<Option<Vec<Place<'a>>>, AllocError>
+) -> Result<Option<Vec<Positional<'a>>>, AllocError>
     ensures { IfOk result (λ places. option_map (λ list. map place_seen list.items) places ≡ places_of wanted.now (map (λ word. word.now) words.now)) }
 {
     if wanted.len() != words.len() {

@@ -52,6 +52,11 @@ const LEVELS: OptionRow = OptionRow {
     bounds: None,
 };
 
+const BATCH: OptionRow = OptionRow {
+    name: "batch",
+    bounds: None,
+};
+
 const MOVES: OptionRow = OptionRow {
     name: "moves",
     bounds: Some(Bounds {
@@ -86,7 +91,7 @@ pub static COMMANDS: [CommandRow; 6] = [
         command: CommandName::Answer,
         name: "answer",
         places: &[None, None],
-        options: &[WALKS, LEVELS, MOVES],
+        options: &[WALKS, LEVELS, BATCH, MOVES],
     },
     CommandRow {
         command: CommandName::Best,
@@ -104,7 +109,7 @@ pub static COMMANDS: [CommandRow; 6] = [
         command: CommandName::Check,
         name: "check",
         places: &[None, None],
-        options: &[],
+        options: &[BATCH],
     },
     CommandRow {
         command: CommandName::Make,

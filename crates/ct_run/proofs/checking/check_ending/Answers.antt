@@ -9,12 +9,12 @@ use Rattle.ct_run.proofs.LedgerFiles.{faulty_checked, weighed_checked}
 use Rattle.ct_run.proofs.checking.check_ending.Goals as goal
 
 pub returns-in-Ok : goal.returns-in-Ok
-returns-in-Ok c =
+returns-in-Ok g c =
     weighed_checked (arc_value c.args.inst.now) c.args.bytes.now c.in-Ok.ledger c.verdict_ending.result (omega (arith, c.if-bytes-gt-LEDGER_FILE_LIMIT.false))
     c.in-Ok.ensures.ok.0 c.in-Ok.ensures.ok.1 c.verdict_ending.ensures
 
 pub returns-in-Err-Fault : goal.returns-in-Err-Fault
-returns-in-Err-Fault c =
+returns-in-Err-Fault g c =
     faulty_checked (arc_value c.args.inst.now) c.args.bytes.now c.in-Err-Fault.line c.bad_ledger_ending.result (omega (arith, c.if-bytes-gt-LEDGER_FILE_LIMIT.false))
     (subst (λ (s : TextStop). AtFault {X = LedgerParts} (IsFaultLine IsLedgerText c.args.bytes.now) (Err s)) c.in-Err-Fault.field-0-is c.in-Err-Fault.ensures.fault)
     c.bad_ledger_ending.ensures.status c.bad_ledger_ending.ensures.text

@@ -1,6 +1,7 @@
 -- The passes of the opening: one for each pass of the lock.
-use Rattle.std.proofs.Common.{◌≡◌, ℕ, ◌+◌, ◌≤◌, ◌<◌, Some, List, [], ◌∷◌, ◌++◌, length, map, get_or, zero, suc, sym, ap, ◌∙◌, refl, arith, add-one, length-append}
+use Rattle.std.proofs.Common.{◌≡◌, ℕ, ◌+◌, ◌≤◌, ◌<◌, Some, List, [], ◌∷◌, ◌++◌, All, length, map, get_or, zero, suc, sym, ap, ◌∙◌, refl, arith, add-one, length-append}
 use Rattle.std.proofs.lemmas.List.{length_push, map-append, length-map}
+use Rattle.std.proofs.lemmas.List.Elements.{All-map}
 use Rattle.std.proofs.Math.Seq.{get_or-append_seam}
 use Rattle.turn_cell.specs.Sight.{CellPlace, CellSight, IsOfCell}
 use Rattle.count_lock.specs.Sight.{LockPlace, LockSight, fresh_passes, fresh_pass as fresh_lock_pass}
@@ -9,8 +10,12 @@ use Rattle.ct_instance.proofs.Entries.{length-indices}
 use Rattle.ct_completion.specs.Journal.{entries_of}
 use Rattle.ct_book.specs.Books.{BookSeen, counts_of}
 use Rattle.ct_host.specs.Values.{PlacedVersion}
-use Rattle.ct_host.specs.Hosts.{PassSeen, key_in, pass_in, opened_pass}
+use Rattle.ct_host.specs.Hosts.{HostSeen, PassSeen, IsOfHost, key_in, pass_in, opened_pass, fresh_pass}
 use Rattle.ct_host.proofs.Counts.{length_counts, count_at}
+
+-- they are passes of the host
+pub opened_own : (host : HostSeen) (n : ℕ) → All (IsOfHost host) (map (fresh_pass host.key) (indices n))
+opened_own host n = All-map (IsOfHost host) (fresh_pass host.key) (indices n) (λ k d inside. refl)
 
 pub length_fresh : (L : LockPlace BookSeen) (from : ℕ) (cs : List ℕ) → length (fresh_passes L from cs) ≡ length cs
 length_fresh L from [] = refl

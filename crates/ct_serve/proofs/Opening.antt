@@ -1,16 +1,14 @@
 -- The passes of a host that is opened.
-use Rattle.std.proofs.Common.{ℕ, ◌+◌, ◌≡◌, List, [], ◌∷◌, ◌++◌, length, map, All, Some, refl, sym, subst, ◌∙◌, ap}
+use Rattle.std.proofs.Common.{ℕ, ◌+◌, ◌≡◌, List, [], ◌∷◌, ◌++◌, length, map, All, Some, sym, subst, ◌∙◌, ap}
 use Rattle.std.proofs.lemmas.List.{length-append, length-map}
-use Rattle.std.proofs.lemmas.List.Elements.{All-map, All-pop}
+use Rattle.std.proofs.lemmas.List.Elements.{All-pop}
 use Rattle.ct_instance.specs.Made.{indices}
 use Rattle.ct_instance.proofs.Entries.{length-indices}
 use Rattle.ct_host.specs.Hosts.{HostSeen, PassSeen, IsOfHost, fresh_pass}
+use Rattle.ct_host.proofs.Dealing.{opened_own}
 
 pub opened_count : (host : HostSeen) (n : ℕ) → length (map (fresh_pass host.key) (indices n)) ≡ n
 opened_count host n = length-map (indices n) (fresh_pass host.key) ∙ length-indices n
-
-pub opened_own : (host : HostSeen) (n : ℕ) → All (IsOfHost host) (map (fresh_pass host.key) (indices n))
-opened_own host n = All-map (IsOfHost host) (fresh_pass host.key) (indices n) (λ k d inside. refl)
 
 -- one of them and the others
 pub opened_split : (host : HostSeen) (n : ℕ) (old new : List PassSeen) (main : PassSeen) → old ≡ map (fresh_pass host.key) (indices n) → old ≡ new ++ main ∷ [] →

@@ -25,10 +25,10 @@ new-requires-clause-level c =
     let are : AreJobsOf c.args.version.now.instance (version_list c.args.version.now.instance (suc c.args.version.now.number)) (c.args.buckets.now.jobs ++ c.in_ok-more.more) =
     next_jobs c.args.version.now c.moves-before.result.now c.in_ok-moves.moves c.args.new.items n c.args.buckets.now.jobs c.in_ok-more.more c.deref.result.now (c.len.result + 1) c.requires.buckets
     (c.deref.ensures ∙ c.instance.ensures.instance) (ap (λ (k : ℕ). k + 1) c.len.ensures.count) c.in_ok-more.ensures in
-    let before : c.behind.result - 1 ≡ c.requires.opens.0 = same_level (c.behind.result - 1) c.requires.opens.0 (sym (sym c.finished.ensures ∙ c.behind.ensures.level) ∙ c.requires.opens.1) in
-    let at : c.behind.result ≡ c.requires.opens.0 + 1 = omega (arith, c.behind.ensures.some) in
+    let before : c.behind-next.result - 1 ≡ c.requires.opens.0 = same_level (c.behind-next.result - 1) c.requires.opens.0 (sym (sym c.finished.ensures ∙ c.behind-next.ensures.level) ∙ c.requires.opens.1) in
+    let at : c.behind-next.result ≡ c.requires.opens.0 + 1 = omega (arith, c.behind-next.ensures.some) in
     let number : suc c.args.version.now.number ≡ c.number.result + 1 = omega (arith, c.number.ensures.number) in
-    next_level c.args.version.now c.moves-before.result.now c.in_ok-moves.moves c.args.new.items n (c.args.buckets.now.jobs ++ c.in_ok-more.more) c.behind.result (level_seen c.in_ok-finished.field-0.finished) are at c.in_ok-finished.ensures.level ∙
+    next_level c.args.version.now c.moves-before.result.now c.in_ok-moves.moves c.args.new.items n (c.args.buckets.now.jobs ++ c.in_ok-more.more) c.behind-next.result (level_seen c.in_ok-finished.field-0.finished) are at c.in_ok-finished.ensures.level ∙
     ap₂ level_of (sym (after_instance c.args.version.now c.moves-before.result.now c.in_ok-moves.moves c.args.new.items n)) number
 
 pub returns-clause-more : goal.returns-clause-more
@@ -45,6 +45,6 @@ returns-clause-queue c =
     let are : AreJobsOf c.args.version.now.instance (version_list c.args.version.now.instance (suc c.args.version.now.number)) (c.args.buckets.now.jobs ++ c.in_ok-more.more) =
     next_jobs c.args.version.now c.moves-before.result.now c.in_ok-moves.moves c.args.new.items n c.args.buckets.now.jobs c.in_ok-more.more c.deref.result.now (c.len.result + 1) c.requires.buckets
     (c.deref.ensures ∙ c.instance.ensures.instance) (ap (λ (k : ℕ). k + 1) c.len.ensures.count) c.in_ok-more.ensures in
-    let before : c.behind.result - 1 ≡ c.requires.opens.0 = same_level (c.behind.result - 1) c.requires.opens.0 (sym (sym c.finished.ensures ∙ c.behind.ensures.level) ∙ c.requires.opens.1) in
-    let at : c.behind.result ≡ c.requires.opens.0 + 1 = omega (arith, c.behind.ensures.some) in
-    next_queue c.args.version.now c.moves-before.result.now c.in_ok-moves.moves c.args.new.items n (c.args.buckets.now.jobs ++ c.in_ok-more.more) c.behind.result c.in_ok-finished.field-0.queue are at c.in_ok-finished.ensures.jobs
+    let before : c.behind-next.result - 1 ≡ c.requires.opens.0 = same_level (c.behind-next.result - 1) c.requires.opens.0 (sym (sym c.finished.ensures ∙ c.behind-next.ensures.level) ∙ c.requires.opens.1) in
+    let at : c.behind-next.result ≡ c.requires.opens.0 + 1 = omega (arith, c.behind-next.ensures.some) in
+    next_queue c.args.version.now c.moves-before.result.now c.in_ok-moves.moves c.args.new.items n (c.args.buckets.now.jobs ++ c.in_ok-more.more) c.behind-next.result c.in_ok-finished.field-0.queue are at c.in_ok-finished.ensures.jobs

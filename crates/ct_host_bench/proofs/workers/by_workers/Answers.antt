@@ -1,6 +1,6 @@
 use Rattle.std.proofs.Common.{All, sym, subst}
 use Rattle.ct_host.specs.Hosts.{IsOfHost}
-use Rattle.ct_host_bench.proofs.Opened.{opened_own}
+use Rattle.ct_host.proofs.Dealing.{opened_own}
 use Rattle.ct_host_bench.proofs.workers.by_workers.Goals as goal
 
 pub beside-requires-clause-own : goal.beside-requires-clause-own

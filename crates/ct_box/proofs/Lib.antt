@@ -1,0 +1,6 @@
+mod BoxLists
+mod Openings
+mod BoxWalks
+mod FullGrades
+mod Completions
+mod Worked

@@ -77,9 +77,9 @@ module _ (f : Form) (limit : ℕ) (walks levels : Bool) (count : ℕ) where
       AllZip (IsBestAnswer (plain_case i limit false false) columns count) rights answers → IsBestReport (form_case f limit walks levels 0) n count script answers
   listed_told i same columns width script wide is rights are answers h =
       let of_form : AllZip (IsBestAnswer (plain_case (equal_of f) limit false false) columns count) rights answers =
-          subst (λ (p : Problem). AllZip (IsBestAnswer (plain_case p limit false false) columns count) rights answers) same h in
+      subst (λ (p : Problem). AllZip (IsBestAnswer (plain_case p limit false false) columns count) rights answers) same h in
       let of_columns : AllZip (IsBestAnswer (plain_case (equal_of f) limit false false) n count) rights answers =
-          subst (λ (k : ℕ). AllZip (IsBestAnswer (plain_case (equal_of f) limit false false) k count) rights answers) width of_form in
+      subst (λ (k : ℕ). AllZip (IsBestAnswer (plain_case (equal_of f) limit false false) k count) rights answers) width of_form in
       zip_from (right_for f) (IsBestAnswer (plain_case (equal_of f) limit false false) n count) (IsBestAnswer (form_case f limit walks levels 0) n count) one_told (rights_in script) answers
       (subst (λ (bs : List (List ℕ)). AllZip (IsBestAnswer (plain_case (equal_of f) limit false false) n count) bs answers)
       (are ∙ ap rights_in is ∙ rights-widened f script) of_columns)
@@ -95,13 +95,13 @@ by_count c n count script k same status text test is ends =
 
 pub counted_too_many : {E : Type 0} (c : Case) (n count : ℕ) (script : Script) (k : ℕ) → k ≡ length (rights_in script) → (test : Bool) → test ≡ nat_lt 10000 (k * count) → test ≡ true →
     (r : Result Ending E) → IfOk r (λ ending. Fits (too_many k) ending) → IfOk r (λ ending. Fits (listed_or_too_many c n count script) ending)
-counted_too_many c n count script k same test is yes (Ok ending) fits =
+counted_too_many c n count script k same test is above (Ok ending) fits =
     by_count c n count script k same ending.status ending.text test is
-    (subst (λ (t : Bool). IsEnding (cond t (too_many k) (listed c n count script)) ending.status ending.text) (sym yes) fits)
-counted_too_many c n count script k same test is yes (Err e) fits = tt
+    (subst (λ (t : Bool). IsEnding (cond t (too_many k) (listed c n count script)) ending.status ending.text) (sym above) fits)
+counted_too_many c n count script k same test is above (Err e) fits = tt
 
 pub counted_few : (c : Case) (n count : ℕ) (script : Script) (k : ℕ) → k ≡ length (rights_in script) → (test : Bool) → test ≡ nat_lt 10000 (k * count) → test ≡ false →
     (status : Status) (text : List ℕ) → IsEnding (listed c n count script) status text → IsEnding (listed_or_too_many c n count script) status text
-counted_few c n count script k same test is no status text ends =
+counted_few c n count script k same test is below status text ends =
     by_count c n count script k same status text test is
-    (subst (λ (t : Bool). IsEnding (cond t (too_many k) (listed c n count script)) status text) (sym no) ends)
+    (subst (λ (t : Bool). IsEnding (cond t (too_many k) (listed c n count script)) status text) (sym below) ends)

@@ -24,6 +24,7 @@ fn verdict_ending<C: Crew>(
     inst: &Arc<Instance>,
     ledger: &Ledger,
 ) -> Result<Ending, AllocError>
+    requires { C.may_share crew.now }
     ensures { IfOk result (λ ending. IsVerdictEnding (arc_value inst.now) ledger.now (verdict_of (arc_value inst.now) ledger.now) ending.status ending.text) }
 {
     let verdict = crew.check(alloc, inst, ledger)?;
@@ -40,6 +41,7 @@ pub fn check_ending<C: Crew>(
     inst: &Arc<Instance>,
     bytes: &[u8],
 ) -> Result<Ending, AllocError>
+    requires { C.may_share crew.now }
     ensures { IfOk result (λ ending. Fits (checked (arc_value inst.now) bytes.now) ending) }
 {
     if bytes.len() > LEDGER_FILE_LIMIT {

@@ -1,11 +1,12 @@
 //! Who answers a script and checks a ledger: one thread, or several.
-ghost use Rattle.std.specs.Prelude.{◌≡◌, ◌≤◌, IfOk};
+ghost use Rattle.std.specs.Prelude.{◌≡◌, ◌≤◌, ◌↔◌, IfOk};
 ghost use Rattle.std.specs.Arc.{arc_value};
 ghost use Rattle.ct_vectors.specs.declared.limits.TheConstants.{MOVE_LIMIT};
 ghost use Rattle.ct_input.specs.Script.{IsScript};
 ghost use Rattle.ct_legal.specs.Cases.{plain_case};
 ghost use Rattle.ct_legal.specs.Legal.{IsLegalAnswered};
-ghost use Rattle.ct_checker.specs.Checking.{verdict_of};
+ghost use Rattle.ct_checker.specs.Accepted.{IsAccepted};
+ghost use Rattle.ct_checker.specs.Checking.{verdict_of, IsAcceptance};
 
 use ct_answer::{Options, answer, answer_batch_report};
 use ct_batch::check_batch;
@@ -19,7 +20,11 @@ use std::sync::Arc;
 use std::thread::Threads;
 
 /// What comes is the same, however many threads there are.
+///
+/// In contracts it says whether its parts may be shared by threads.
 pub trait Crew {
+    ghost may_share: { Self → Type 0 };
+
     /// Answers a script, each ask as a solve.
     fn answer(
         &self,
@@ -28,6 +33,7 @@ pub trait Crew {
         script: &Script,
         options: Options,
     ) -> Result<Report, AllocError>
+        requires shared { may_share self.now }
         requires some { 1 ≤ options.limit }
         requires most { options.limit ≤ MOVE_LIMIT }
         requires script { IsScript (arc_value inst).rows script.now }
@@ -40,7 +46,9 @@ pub trait Crew {
         inst: &Arc<Instance>,
         ledger: &Ledger,
     ) -> Result<Verdict, AllocError>
-        ensures { IfOk result (λ v. v ≡ verdict_of (arc_value inst.now) ledger.now) };
+        requires shared { may_share self.now }
+        ensures verdict { IfOk result (λ v. v ≡ verdict_of (arc_value inst.now) ledger.now) }
+        ensures accepted { IfOk result (λ v. IsAcceptance v ↔ IsAccepted (arc_value inst.now) ledger.now) };
 }
 
 /// The caller's thread alone.
@@ -48,6 +56,10 @@ pub trait Crew {
 pub struct OneThread;
 
 impl Crew for OneThread {
+    ghost use Rattle.std.specs.Prelude.{⊤};
+
+    ghost may_share = { λ _. ⊤ };
+
     fn answer(
         &self,
         alloc: Global,
@@ -75,6 +87,10 @@ pub struct Several<'a, R> {
 }
 
 impl<'a, R: Threads + Sync> Crew for Several<'a, R> {
+    ghost use Rattle.std.specs.Thread.{IsSync};
+
+    ghost may_share = { λ _. IsSync R.row };
+
     fn answer(
         &self,
         alloc: Global,

@@ -71,6 +71,7 @@ pub fn report_ending<C: Crew>(
     script: Script,
     options: Options,
 ) -> Result<Ending, AllocError>
+    requires crew { C.may_share crew.now }
     requires limit { IsLimit options.limit }
     requires script { IsScript form.now.rows script }
     ensures { IfOk result (λ ending. Fits (answered (case_of options form.now) script) ending) }

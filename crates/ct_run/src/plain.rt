@@ -32,7 +32,8 @@ fn sessions_ending<C: Crew, S: Shelf>(
     options: Options,
     shelf: &mut S,
 ) -> Result<Ending, Stop>
-    requires { IsLimit options.limit }
+    requires crew { C.may_share crew.now }
+    requires limit { IsLimit options.limit }
     ensures ran { Ran (sessions_plan sessions.now options form.now) (S.told shelf.old) (S.faults shelf.old) (S.faults shelf.new) result }
     ensures kept { S.told shelf.new ≡ S.told shelf.old }
     ensures later { (name : List ℕ) → S.faults shelf.old name ≤ S.faults shelf.new name }
@@ -69,6 +70,7 @@ fn ledger_ending<C: Crew, S: Shelf>(
     ledger: &str,
     shelf: &mut S,
 ) -> Result<Ending, Stop>
+    requires crew { C.may_share crew.now }
     ensures ran { Ran (check_plan ledger.now (equal_of form.now)) (S.told shelf.old) (S.faults shelf.old) (S.faults shelf.new) result }
     ensures kept { S.told shelf.new ≡ S.told shelf.old }
     ensures later { (name : List ℕ) → S.faults shelf.old name ≤ S.faults shelf.new name }
@@ -86,7 +88,8 @@ fn work_ending<C: Crew, S: Shelf>(
     form: &Form,
     shelf: &mut S,
 ) -> Result<Ending, Stop>
-    requires { IsWorkWithin (work_seen work) }
+    requires crew { C.may_share crew.now }
+    requires work { IsWorkWithin (work_seen work) }
     ensures ran { Ran (work_plan (work_seen work.entry) form.now) (S.told shelf.old) (S.faults shelf.old) (S.faults shelf.new) result }
     ensures kept { S.told shelf.new ≡ S.told shelf.old }
     ensures later { (name : List ℕ) → S.faults shelf.old name ≤ S.faults shelf.new name }
@@ -134,7 +137,8 @@ fn instance_ending<C: Crew, S: Shelf>(
     work: Work<'_>,
     shelf: &mut S,
 ) -> Result<Ending, Stop>
-    requires { IsWorkWithin (work_seen work) }
+    requires crew { C.may_share crew.now }
+    requires work { IsWorkWithin (work_seen work) }
     ensures ran { Ran (instance_plan instance.now (work_plan (work_seen work.entry))) (S.told shelf.old) (S.faults shelf.old) (S.faults shelf.new) result }
     ensures kept { S.told shelf.new ≡ S.told shelf.old }
     ensures later { (name : List ℕ) → S.faults shelf.old name ≤ S.faults shelf.new name }
@@ -150,7 +154,8 @@ fn crew_ending<C: Crew, S: Shelf>(
     command: Option<Command<'_>>,
     shelf: &mut S,
 ) -> Result<Ending, Stop>
-    requires { IfSome command (λ known. IsCommandWithin (seen known)) }
+    requires crew { C.may_share crew.now }
+    requires command { IfSome command (λ known. IsCommandWithin (seen known)) }
     ensures ran { Ran (plan_of (batch_of (option_map seen command.entry))) (S.told shelf.old) (S.faults shelf.old) (S.faults shelf.new) result }
     ensures kept { S.told shelf.new ≡ S.told shelf.old }
     ensures later { (name : List ℕ) → S.faults shelf.old name ≤ S.faults shelf.new name }

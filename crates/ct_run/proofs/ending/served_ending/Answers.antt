@@ -6,10 +6,10 @@ use Rattle.ct_run.proofs.ToldForms.{served_told}
 use Rattle.ct_run.proofs.ending.served_ending.Goals as goal
 
 pub serve_report-requires-clause-script : goal.serve_report-requires-clause-script
-serve_report-requires-clause-script c = subst (λ (p : Problem). IsScript p.rows c.in_ok-wide.wide) (sym c.equal.ensures) c.in_ok-wide.ensures.script
+serve_report-requires-clause-script g c κs within = subst (λ (p : Problem). IsScript p.rows c.in_ok-wide.wide) (sym c.equal.ensures) c.in_ok-wide.ensures.script
 
 pub returns : goal.returns
-returns c = (
+returns g c = (
   refl,
   served_told c.args.form.now (arc_value c.equal.result.now) c.equal.ensures c.args.script c.in_ok-wide.wide c.in_ok-wide.ensures.wide
       c.args.options.limit c.args.options.walks c.args.options.levels c.in_ok-report.report c.in_ok-told.told c.in_ok-told.ensures

@@ -1,4 +1,4 @@
-use Rattle.std.proofs.Common.{◌≡◌, ◌*◌, nat_lt, ℕ, List, map, length, All, Bor, refl, sym, subst, ap, ◌∙◌}
+use Rattle.std.proofs.Common.{◌≡◌, ◌*◌, nat_lt, ℕ, List, map, length, All, Bor, rules, refl, sym, subst, ap, ◌∙◌}
 use Rattle.std.specs.Arc.{arc_value}
 use Rattle.std.proofs.lemmas.List.{length-map}
 use Rattle.ct_instance.specs.Instance.{Problem}
@@ -20,8 +20,9 @@ returns-then-is_too_many c =
     let rights : List (Bor (List ℕ)) = c.in_ok-rights.rights.items in
     let many : length rights ≡ length (rights_in c.args.script) =
         sym (length-map rights (λ b. b.now)) ∙ ap (λ (bs : List (List ℕ)). length bs) c.in_ok-rights.ensures.rights ∙ rights-count c.args.form.now c.args.script c.in_ok-wide.wide c.in_ok-wide.ensures.wide in
+    let counted : c.len-then-is_too_many.result ≡ length rights = search rules in
     counted_too_many (case_of c.args.options c.args.form.now) (length c.args.form.now.columns) c.args.count c.args.script
-    c.len-then-is_too_many.result (c.len-then-is_too_many.ensures ∙ many) c.is_too_many.result
+    c.len-then-is_too_many.result (counted ∙ many) c.is_too_many.result
     (c.is_too_many.ensures ∙ ap (λ (k : ℕ). nat_lt 10000 (k * c.args.count)) (c.len.ensures ∙ sym c.len-then-is_too_many.ensures)) c.if-is_too_many.true
     c.too_many_ending.result c.too_many_ending.ensures
 
@@ -32,8 +33,9 @@ returns c =
         sym (length-map rights (λ b. b.now)) ∙ ap (λ (bs : List (List ℕ)). length bs) c.in_ok-rights.ensures.rights ∙ rights-count c.args.form.now c.args.script c.in_ok-wide.wide c.in_ok-wide.ensures.wide in
     let asked : map (λ b. b.now) c.deref.result.now ≡ rights_in c.in_ok-wide.wide =
         ap (λ (bs : List (Bor (List ℕ))). map (λ b. b.now) bs) c.deref.ensures.value ∙ c.in_ok-rights.ensures.rights in
+    let counted : c.len.result ≡ length rights = search rules in
     counted_few (case_of c.args.options c.args.form.now) (length c.args.form.now.columns) c.args.count c.args.script
-    c.len.result (c.len.ensures ∙ many) c.is_too_many.result c.is_too_many.ensures c.if-is_too_many.false Done c.from_vec.result (
+    c.len.result (counted ∙ many) c.is_too_many.result c.is_too_many.ensures c.if-is_too_many.false Done c.from_vec.result (
       refl,
       (
         c.in_ok-report.report.answers,

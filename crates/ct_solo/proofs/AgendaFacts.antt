@@ -12,10 +12,7 @@ use Rattle.ct_instance.proofs.Above.{least_above_some, least_above_none}
 use Rattle.ct_jobs.specs.declared.graded.GradedJob.{GradedJob}
 use Rattle.ct_jobs.specs.GradedJobs.{next_grade}
 use Rattle.ct_solo.specs.declared.agenda.Agenda.{Agenda}
-use Rattle.ct_solo.specs.Agendas.{look, jobs_of, unless, IsEntry, IsAgenda, IsPut, IsLesserOf}
-
-abbrev pub graded : ℕ → Job → GradedJob
-graded g j = record { grade = g; job = j }
+use Rattle.ct_solo.specs.Agendas.{graded, look, jobs_of, unless, IsEntry, IsAgenda, IsPut, IsLesserOf}
 
 -- all but the grades stays the same
 pub record IsBeside (a b : Agenda) : Type 0 where

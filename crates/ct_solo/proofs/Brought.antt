@@ -34,10 +34,10 @@ use Rattle.ct_handing.proofs.LevelsSoFar.{under_is_below}
 use Rattle.ct_handing.proofs.Points.{AreSmall, remainder_small, all_points}
 use Rattle.ct_version.specs.Editions.{Edition, level_below}
 use Rattle.ct_solo.specs.declared.agenda.Agenda.{Agenda}
-use Rattle.ct_solo.specs.Agendas.{look, jobs_of, IsAgenda}
+use Rattle.ct_solo.specs.Agendas.{graded, look, jobs_of, IsAgenda}
 use Rattle.ct_solo.specs.Leaving.{LeavesPoints, IsSmallJob}
 use Rattle.ct_solo.specs.Insides.{HasAgenda}
-use Rattle.ct_solo.proofs.AgendaFacts.{graded, same_agenda, longer_agenda}
+use Rattle.ct_solo.proofs.AgendaFacts.{same_agenda, longer_agenda}
 use Rattle.ct_solo.proofs.KeptJobs.{next_from_kept}
 
 -- ---- a version whose agenda is kept

@@ -1,5 +1,6 @@
 pub mod AgendaFacts
 pub mod Looks
+pub mod CoprimeHeads
 pub mod Fillings
 pub mod KeptJobs
 pub mod Brought

@@ -10,6 +10,9 @@ use Rattle.ct_instance.specs.Jobs.{IsCoprime}
 use Rattle.ct_jobs.specs.declared.graded.GradedJob.{GradedJob}
 use Rattle.ct_solo.specs.declared.agenda.Agenda.{Agenda}
 
+abbrev pub graded : ℕ → Job → GradedJob
+graded g j = record { grade = g; job = j }
+
 -- the jobs that are kept of a grade, where it is kept
 abbrev pub look : Agenda → ℕ → Option (List Job)
 look a g = option_map (λ v. v.items) (get nat_cmp a.grades g)

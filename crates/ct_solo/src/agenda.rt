@@ -1,16 +1,14 @@
 //! What is kept of the jobs of a list of moves.
-ghost use Rattle.std.specs.Prelude.{◌≡◌, ◌≤◌, ◌<◌, ◌++◌, ◌∷◌, [], List, Some, Contains, OnOk};
+ghost use Rattle.std.specs.Prelude.{◌≡◌, ◌≤◌, ◌<◌, ◌++◌, ◌∷◌, [], List, Some, Contains, OnOk, IsTrue};
 ghost use Rattle.ct_instance.specs.TestSet.{Binomial};
-ghost use Rattle.ct_instance.specs.Jobs.{IsJob, job_grade_of};
+ghost use Rattle.ct_instance.specs.Jobs.{IsCoprime};
 ghost use Rattle.ct_jobs.specs.declared.graded.GradedJob.{GradedJob};
-ghost use Rattle.ct_jobs.specs.GradedJobs.{with_grade, next_grade};
+ghost use Rattle.ct_jobs.specs.GradedJobs.{next_grade};
 ghost use Rattle.std.specs.Ordering.{nat_cmp};
 ghost use Rattle.std.specs.BTreeMap.{Updates};
-ghost use Rattle.ct_solo.specs.Agendas.{IsAgenda, IsPut, IsLesserOf, jobs_of, unless};
+ghost use Rattle.ct_solo.specs.Agendas.{IsAgenda, IsPut, IsLesserOf, graded, jobs_of, unless};
 
 use ct_instance::Job;
-use ct_jobs::coprime;
-use ct_walk::Moves;
 use std::alloc::{AllocError, Global};
 use std::collections::BTreeMap;
 
@@ -45,11 +43,9 @@ impl Agenda {
         }
     }
 
-    // Takes a job of the list in, which has this grade.
-    pub fn take_in(&mut self, moves: &Moves, job: Job, grade: u64) -> Result<(), AllocError>
-        requires job { IsJob moves.now.instance moves.now.moves job }
-        requires grade { grade ≡ job_grade_of moves.now.instance moves.now.moves job }
-        ensures taken { OnOk result ((js : List GradedJob) → IsAgenda moves.now.moves js self.old → IsAgenda moves.now.moves (js ++ with_grade moves.now.instance moves.now.moves job ∷ []) self.new) }
+    // Takes a job in, which has this grade, and keeps its grade alone where it is to be left out: a pair of coprime heads.
+    pub fn take_in(&mut self, job: Job, grade: u64, out: bool) -> Result<(), AllocError>
+        ensures taken { OnOk result ((ms : List Binomial) → (js : List GradedJob) → (IsTrue out → IsCoprime ms job) → IsAgenda ms js self.old → IsAgenda ms (js ++ graded grade job ∷ []) self.new) }
         ensures opened { self.new.opened ≡ self.old.opened }
         ensures top { self.new.top ≡ self.old.top }
     {
@@ -60,7 +56,6 @@ impl Agenda {
         if grade <= self.opened {
             return Ok(());
         }
-        let out = coprime(moves, job);
         self.put(grade, job, out)
     }
 

@@ -1,11 +1,10 @@
-use Rattle.std.proofs.Common.{◌≡◌, ◌+◌, ◌++◌, ◌∷◌, [], ℕ, List, sym, ap, subst, ◌∙◌, arith}
+use Rattle.std.proofs.Common.{◌≡◌, ◌+◌, ◌++◌, ◌∷◌, [], ℕ, List, true≢false, sym, ap, subst, ◌∙◌, arith}
 use Rattle.ct_instance.specs.declared.jobs.Job.TheVariants.{Generator}
 use Rattle.ct_instance.specs.Instance.{column_count}
-use Rattle.ct_instance.specs.TestSet.{Binomial}
+use Rattle.ct_instance.specs.Jobs.{job_grade_of}
 use Rattle.ct_jobs.specs.declared.graded.GradedJob.{GradedJob}
-use Rattle.ct_jobs.specs.GradedJobs.{with_grade}
 use Rattle.ct_jobs.proofs.Rows.{generators_all}
-use Rattle.ct_solo.specs.Agendas.{IsAgenda}
+use Rattle.ct_solo.specs.Agendas.{graded, IsAgenda}
 use Rattle.ct_solo.proofs.Fillings.{generators_to, one_generator_more}
 use Rattle.ct_solo.proofs.filling.take_generators.Goals as goal
 
@@ -14,10 +13,12 @@ loop-j-preserved c =
     let i = c.args.moves.now.instance in
     let j : ℕ = c.loop-j.j in
     let new = c.take_in.new.self in
+    let grade : c.job_grade.result ≡ job_grade_of i [] (Generator (j + 1)) =
+    c.job_grade.ensures ∙ ap (λ p. job_grade_of p [] (Generator (j + 1))) (c.deref-in-loop-j.ensures ∙ c.instance-in-loop-j.ensures.instance) in
     record {
       taken = λ h. one_generator_more i j new
-          (subst (λ (ms : List Binomial). IsAgenda ms (generators_to i j ++ with_grade i ms (Generator (j + 1)) ∷ []) new) c.requires
-          (c.in_ok-take_in.ensures.taken (generators_to i j) (subst (λ (ms : List Binomial). IsAgenda ms (generators_to i j) c.loop-j.agenda) (sym c.requires) (c.loop-j.invariant.taken h))));
+          (subst (λ (g : ℕ). IsAgenda [] (generators_to i j ++ graded g (Generator (j + 1)) ∷ []) new) grade
+          (c.in_ok-take_in.ensures.taken [] (generators_to i j) (λ t. absurd (true≢false (sym t))) (c.loop-j.invariant.taken h)));
       opened = c.take_in.ensures.opened ∙ c.loop-j.invariant.opened;
       top = c.take_in.ensures.top ∙ c.loop-j.invariant.top;
     }

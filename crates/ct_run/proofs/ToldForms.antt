@@ -62,7 +62,7 @@ module _ (f : Form) (form : IsForm f) (none : column_count (equal_of f) ≡ leng
   same_case : (limit : ℕ) (walks levels : Bool) → form_case f limit walks levels 0 ≡ plain_case (equal_of f) limit walks levels
   same_case limit walks levels =
       let shown : (b : List ℕ) → form_answer_of f b ≡ answer_of (equal_of f) b =
-          λ b. ap (λ c. cut_to (length f.columns) (answer_of (equal_of f) c)) (same_right b) ∙ cut-answer (equal_of f) (length f.columns) none b in
+      λ b. ap (λ c. cut_to (length f.columns) (answer_of (equal_of f) c)) (same_right b) ∙ cut-answer (equal_of f) (length f.columns) none b in
       ap₂ (case_with (equal_of f) limit walks levels) (fun_ext same_right) (fun_ext shown)
 
   -- of such a form the report is told as it is
@@ -103,6 +103,6 @@ module _ (f : Form) (i : Problem) (same : i ≡ equal_of f) (script wide : Scrip
     pub answered_told : IsLegalAnswered (plain_case i limit walks levels) wide report → IsReportOf (form_case f limit walks levels 0) script text
     answered_told legal =
         let of_form : IsLegalServed (plain_case (equal_of f) limit walks levels) (with_solves wide) report =
-            subst (λ (p : Problem). IsLegalServed (plain_case p limit walks levels) (with_solves wide) report) same legal in
+        subst (λ (p : Problem). IsLegalServed (plain_case p limit walks levels) (with_solves wide) report) same legal in
         let solves : with_solves wide ≡ widened f (with_solves script) = ap with_solves is ∙ widened_with_solves f script in
         (told, (to limit walks levels (with_solves script) (subst (λ (s : Script). IsLegalServed (plain_case (equal_of f) limit walks levels) s report) solves of_form), written))

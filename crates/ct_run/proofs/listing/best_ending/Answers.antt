@@ -19,7 +19,7 @@ pub returns-then-is_too_many : goal.returns-then-is_too_many
 returns-then-is_too_many c =
     let rights : List (Bor (List ℕ)) = c.in_ok-rights.rights.items in
     let many : length rights ≡ length (rights_in c.args.script) =
-        sym (length-map rights (λ b. b.now)) ∙ ap (λ (bs : List (List ℕ)). length bs) c.in_ok-rights.ensures.rights ∙ rights-count c.args.form.now c.args.script c.in_ok-wide.wide c.in_ok-wide.ensures.wide in
+    sym (length-map rights (λ b. b.now)) ∙ ap (λ (bs : List (List ℕ)). length bs) c.in_ok-rights.ensures.rights ∙ rights-count c.args.form.now c.args.script c.in_ok-wide.wide c.in_ok-wide.ensures.wide in
     let counted : c.len-then-is_too_many.result ≡ length rights = search rules in
     counted_too_many (case_of c.args.options c.args.form.now) (length c.args.form.now.columns) c.args.count c.args.script
     c.len-then-is_too_many.result (counted ∙ many) c.is_too_many.result
@@ -30,9 +30,9 @@ pub returns : goal.returns
 returns c =
     let rights : List (Bor (List ℕ)) = c.in_ok-rights.rights.items in
     let many : length rights ≡ length (rights_in c.args.script) =
-        sym (length-map rights (λ b. b.now)) ∙ ap (λ (bs : List (List ℕ)). length bs) c.in_ok-rights.ensures.rights ∙ rights-count c.args.form.now c.args.script c.in_ok-wide.wide c.in_ok-wide.ensures.wide in
+    sym (length-map rights (λ b. b.now)) ∙ ap (λ (bs : List (List ℕ)). length bs) c.in_ok-rights.ensures.rights ∙ rights-count c.args.form.now c.args.script c.in_ok-wide.wide c.in_ok-wide.ensures.wide in
     let asked : map (λ b. b.now) c.deref.result.now ≡ rights_in c.in_ok-wide.wide =
-        ap (λ (bs : List (Bor (List ℕ))). map (λ b. b.now) bs) c.deref.ensures.value ∙ c.in_ok-rights.ensures.rights in
+    ap (λ (bs : List (Bor (List ℕ))). map (λ b. b.now) bs) c.deref.ensures.value ∙ c.in_ok-rights.ensures.rights in
     let counted : c.len.result ≡ length rights = search rules in
     counted_few (case_of c.args.options c.args.form.now) (length c.args.form.now.columns) c.args.count c.args.script
     c.len.result (counted ∙ many) c.is_too_many.result c.is_too_many.ensures c.if-is_too_many.false Done c.from_vec.result (

@@ -3,3 +3,5 @@ pub mod Worked
 pub mod TestLists
 pub mod Ledgers
 pub mod Comparing
+pub mod Cutting
+pub mod Cuts

@@ -140,8 +140,8 @@ pub fn run_plain<S: Shelf, O: Sink>(
 /// requests of `answer` and the entries of `check` are dealt out to as many threads as there are processors: status and text
 /// are those without it.
 ///
-/// It never waits: where no thread can be made, the caller does the work. Memory is that of [`run_plain`] and, with
-/// `--batch`, that of all answers with their walks twice, or of a few bytes an entry.
+/// It never waits: with one processor, and where no thread can be made, the caller does the work. Memory is that of
+/// [`run_plain`] and, with `--batch`, that of all answers with their walks twice, or of a few bytes an entry.
 pub fn run_batch<R: Threads + Sync, S: Shelf, O: Sink>(
     rt: &R,
     alloc: Global,

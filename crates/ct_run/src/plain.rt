@@ -19,6 +19,7 @@ use ct_answer::Options;
 use ct_form::Form;
 use ct_input::limits::LEDGER_FILE_LIMIT;
 use ct_outside::Shelf;
+use rayon::current_num_threads;
 use std::alloc::Global;
 use std::sync::Arc;
 use std::thread::Threads;
@@ -208,7 +209,8 @@ fn is_batch(command: &Option<Command<'_>>) -> bool {
     }
 }
 
-/// The ending of a command but `serve`, or of words that are none, in several threads where the words say so.
+/// The ending of a command but `serve`, or of words that are none, in several threads where the words say so and there are
+/// processors for them.
 pub fn batch_ending<R: Threads + Sync, S: Shelf>(
     rt: &R,
     alloc: Global,
@@ -220,7 +222,7 @@ pub fn batch_ending<R: Threads + Sync, S: Shelf>(
     ensures kept { S.told shelf.new ≡ S.told shelf.old }
     ensures later { (name : List ℕ) → S.faults shelf.old name ≤ S.faults shelf.new name }
 {
-    if is_batch(&command) {
+    if is_batch(&command) && current_num_threads(rt) > 1 {
         crew_ending(&Several { rt }, alloc, command, shelf)
     } else {
         crew_ending(&OneThread, alloc, command, shelf)

@@ -7,11 +7,11 @@
 #![tactic(auto)]
 
 pub mod laws;
+#[cfg(test)]
+mod ledger_tests;
 mod reduced;
 mod resumed;
 mod resuming;
-#[cfg(test)]
-mod tests;
 
 pub use reduced::first_unreduced;
 pub use resumed::{ResumeStop, Resumed};

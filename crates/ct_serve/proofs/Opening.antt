@@ -1,19 +1,16 @@
 -- The passes of a host that is opened.
-use Rattle.std.proofs.Common.{ℕ, ◌+◌, ◌≡◌, List, [], ◌∷◌, ◌++◌, length, map, All, Some, sym, subst, ◌∙◌, ap}
-use Rattle.std.proofs.lemmas.List.{length-append, length-map}
-use Rattle.std.proofs.lemmas.List.Elements.{All-pop}
+use Rattle.std.proofs.Common.{ℕ, ◌≡◌, List, length, map, All, refl, sym, ap, subst, ◌∙◌}
+use Rattle.std.proofs.lemmas.List.{length-map}
+use Rattle.std.proofs.lemmas.List.Elements.{All-map}
 use Rattle.ct_instance.specs.Made.{indices}
 use Rattle.ct_instance.proofs.Entries.{length-indices}
-use Rattle.ct_host.specs.Hosts.{HostSeen, PassSeen, IsOfHost, fresh_pass}
-use Rattle.ct_host.proofs.Dealing.{opened_own}
+use Rattle.ct_completion.specs.declared.journals.Entry.{Entry}
+use Rattle.ct_host.specs.Hosts.{HostSeen, PassSeen, IsOfHost, opened_pass}
 
-pub opened_count : (host : HostSeen) (n : ℕ) → length (map (fresh_pass host.key) (indices n)) ≡ n
-opened_count host n = length-map (indices n) (fresh_pass host.key) ∙ length-indices n
-
--- one of them and the others
-pub opened_split : (host : HostSeen) (n : ℕ) (old new : List PassSeen) (main : PassSeen) → old ≡ map (fresh_pass host.key) (indices n) → old ≡ new ++ main ∷ [] →
-    IsOfHost host main × All (IsOfHost host) new × (length new + 1 ≡ n)
-opened_split host n old new main are is =
-    let own = All-pop (IsOfHost host) old new (Some main) is (subst (All (IsOfHost host)) (sym are) (opened_own host n)) in
-    let count : length new + 1 ≡ n = sym (length-append new (main ∷ [])) ∙ ap length (sym is ∙ are) ∙ opened_count host n in
-    (own.1, own.0, count)
+-- they are its own, whatever version and journal it begins with
+pub opened_are : (host : HostSeen) (number : ℕ) (journal : List Entry) (n : ℕ) (passes : List PassSeen) → passes ≡ map (opened_pass host.key number journal) (indices n) →
+    All (IsOfHost host) passes × (length passes ≡ n)
+opened_are host number journal n passes are = (
+  subst (All (IsOfHost host)) (sym are) (All-map (IsOfHost host) (opened_pass host.key number journal) (indices n) (λ k d inside. refl)),
+  ap length are ∙ length-map (indices n) (opened_pass host.key number journal) ∙ length-indices n,
+)

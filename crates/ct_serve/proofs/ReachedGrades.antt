@@ -1,5 +1,5 @@
 -- What help gives has reached the grade.
-use Rattle.std.proofs.Common.{ℕ, ◌≤◌, ◌≡◌, ⊎_elim, Some, sym, subst, ◌∙◌}
+use Rattle.std.proofs.Common.{ℕ, ◌≤◌, ◌≡◌, ◌⊎◌, ⊎_elim, max, Some, sym, subst, ◌∙◌, arith}
 use Rattle.std.proofs.lemmas.Bool.{cases_lt}
 use Rattle.std.specs.Arc.{arc_value}
 use Rattle.ct_instance.specs.Versions.{Covers}
@@ -10,8 +10,8 @@ use Rattle.ct_levels.proofs.Reach.{reach_when_full, reach_when_room}
 use Rattle.ct_version.specs.declared.finished.Finished.{Finished}
 use Rattle.ct_version.specs.declared.pins.Helped.{Helped}
 use Rattle.ct_version.specs.declared.pins.FullMark.{FullMark}
-use Rattle.ct_version.specs.Editions.{level_seen, level_below}
-use Rattle.ct_version.specs.Desks.{Place, IsHelp, IsFullMark}
+use Rattle.ct_version.specs.Editions.{Edition, level_seen, level_below}
+use Rattle.ct_version.specs.Desks.{Place, IsOfPlace, IsHelp, IsFullMark}
 use Rattle.ct_session.specs.Shown.{HasReached}
 use Rattle.ct_answer.proofs.ToldReports.{reach_helped, reach_marked}
 use Rattle.ct_serve.specs.Served.{IsHeld}
@@ -37,3 +37,21 @@ held_marked p g m level mark is =
       reached = λ x c. subst (λ l. Covers l x) (reach_when_full p.instance p.limit g m.grade mark.grade ∙ sym mark.finished) c;
       level = is ∙ reach_marked p g m mark;
     }
+
+-- ---- what is held while the grade rises
+
+-- what a version has reached a later one has
+later_reached : (p : Place) (g j k : ℕ) → j ≤ k → HasReached p g j → HasReached p g k
+later_reached p g j k later reached = λ x c. levels_rise p.instance j k x later (reached x c)
+
+-- the version that is kept has reached the grade at which the run began, and the next one that is worked for
+pub reached_on : (p : Place) (opened grade next held reached kept : ℕ) → grade ≤ next → held ≤ kept → reached ≤ kept →
+    HasReached p (max opened grade) held → HasReached p next reached → HasReached p (max opened next) kept
+reached_on p opened grade next held reached kept grows old new before now =
+    ⊎_elim (λ l. let e : max opened next ≡ next = omega (arith, l) in subst (λ g. HasReached p g kept) (sym e) (later_reached p next reached kept new now))
+    (λ l. let e : max opened next ≡ max opened grade = omega (arith, l, grows) in subst (λ g. HasReached p g kept) (sym e) (later_reached p (max opened grade) held kept old before))
+    (cases_lt opened next)
+
+-- it is one of the two that are there
+pub either_place : (p : Place) (held reached kept : Edition) → (kept ≡ held) ⊎ (kept ≡ reached) → IsOfPlace p held → IsOfPlace p reached → IsOfPlace p kept
+either_place p held reached kept either first second = ⊎_elim (λ e. subst (IsOfPlace p) (sym e) first) (λ e. subst (IsOfPlace p) (sym e) second) either

@@ -19,53 +19,55 @@ use Rattle.ct_answer.specs.Told.{case_at, all_worked_for, AreEach}
 use Rattle.ct_answer.proofs.Pairing.{one_more}
 use Rattle.ct_answer.specs.Extents.{grade_upto}
 use Rattle.ct_answer.proofs.ToldReports.{grade_pushed, phases_pushed}
-use Rattle.ct_serve.specs.Served.{IsTold}
+use Rattle.ct_serve.specs.Served.{case_from, IsTold}
+use Rattle.ct_serve.proofs.OpenedCases.{lines_from}
 use Rattle.ct_serve.proofs.WorkedFor.{grade_worked}
 
 covers_zero : (l : Level) → Covers l 0
 covers_zero (upto l) = let t : 0 ≤ l = omega arith in t
 covers_zero everything = tt
 
-legal_sessions : (p : Place) → IsInstance p.instance → (o : Options) (grade from : ℕ) (sessions : List (List Request)) (told : List (List Line)) → HasReached p grade from →
-    AreEach (IsTold p o.walks from) sessions told → AreLegalSessions (case_at p o) grade sessions told
-legal_sessions p s o grade from [] [] reached each = tt
-legal_sessions p s o grade from [] (lines ∷ told) reached each = absurd each
-legal_sessions p s o grade from (requests ∷ sessions) [] reached each = absurd each
-legal_sessions p s o grade from (requests ∷ sessions) (lines ∷ told) reached each =
+legal_sessions : (p : Place) → IsInstance p.instance → (o : Options) (opened floor from : ℕ) (sessions : List (List Request)) (told : List (List Line)) → HasReached p floor from →
+    AreEach (IsTold p o.walks from) sessions told → AreLegalSessions (case_from p o opened) floor sessions told
+legal_sessions p s o opened floor from [] [] reached each = tt
+legal_sessions p s o opened floor from [] (lines ∷ told) reached each = absurd each
+legal_sessions p s o opened floor from (requests ∷ sessions) [] reached each = absurd each
+legal_sessions p s o opened floor from (requests ∷ sessions) (lines ∷ told) reached each =
     let here = each.0 in (
-      shown_is_legal p s o.walks o.levels here.before here.after from here.to requests lines here.words here.shown grade 0 reached (covers_zero (level_of p.instance from)),
-      legal_sessions p s o grade from sessions told reached each.1,
+      lines_from (case_at p o) opened floor 0 requests lines
+          (shown_is_legal p s o.walks o.levels here.before here.after from here.to requests lines here.words here.shown floor 0 reached (covers_zero (level_of p.instance from))),
+      legal_sessions p s o opened floor from sessions told reached each.1,
     )
 
--- the phases up to the k-th, with the grade that was worked for
-pub record AreServedUpto (p : Place) (o : Options) (phases : List Phase) (k grade : ℕ) (reports : List PhaseReport) : Type 0 where
-  pub legal : AreLegalPhases (case_at p o) 0 (take k phases) reports
-  pub grade_is : grade ≡ grade_upto (case_at p o) 0 (take k phases)
+-- the phases up to the k-th of a run that began at a grade, with the grade that was worked for
+pub record AreServedUpto (p : Place) (o : Options) (opened : ℕ) (phases : List Phase) (k grade : ℕ) (reports : List PhaseReport) : Type 0 where
+  pub legal : AreLegalPhases (case_from p o opened) 0 (take k phases) reports
+  pub grade_is : grade ≡ grade_upto (case_from p o opened) 0 (take k phases)
 
-pub served_more : (p : Place) → IsInstance p.instance → (o : Options) (phases : List Phase) (k grade next from : ℕ) (reports more : List PhaseReport) (phase : Phase) (report : PhaseReport) →
-    k < length phases → phase ≡ get_or phases k phase → AreServedUpto p o phases k grade reports →
+pub served_more : (p : Place) → IsInstance p.instance → (o : Options) (opened : ℕ) (phases : List Phase) (k grade next from : ℕ) (reports more : List PhaseReport) (phase : Phase) (report : PhaseReport) →
+    k < length phases → phase ≡ get_or phases k phase → AreServedUpto p o opened phases k grade reports →
     next ≡ max grade (max phase.target (greatest (all_worked_for false phase.sessions))) →
-    HasReached p grade from → AreEach (IsTold p o.walks from) phase.sessions report.sessions →
+    HasReached p (max opened grade) from → AreEach (IsTold p o.walks from) phase.sessions report.sessions →
     IsLevelShown o.levels (reach_of p.instance p.limit next) report.level → more ≡ reports ++ report ∷ [] →
-    AreServedUpto p o phases (k + 1) next more
-served_more p s o phases k grade next from reports more phase report inside is so_far next_is reached told level pushed =
-    let c : Case = case_at p o in
+    AreServedUpto p o opened phases (k + 1) next more
+served_more p s o opened phases k grade next from reports more phase report inside is so_far next_is reached told level pushed =
+    let c : Case = case_from p o opened in
     let front : List Phase = take k phases in
     let longer : front ++ phase ∷ [] ≡ take (k + 1) phases = one_more phases k phase inside is in
     let grows : next ≡ grade_after c (grade_upto c 0 front) phase =
-    next_is ∙ sym (grade_worked p o grade phase) ∙ ap (λ g. grade_after c g phase) so_far.grade_is in
-    let floor : grade ≡ max 0 (grade_upto c 0 front) = so_far.grade_is ∙ (let t : grade_upto c 0 front ≡ max 0 (grade_upto c 0 front) = omega arith in t) in
-    subst (AreServedUpto p o phases (k + 1) next) (sym pushed)
+    next_is ∙ sym (grade_worked p o opened grade phase) ∙ ap (λ g. grade_after c g phase) so_far.grade_is in
+    subst (AreServedUpto p o opened phases (k + 1) next) (sym pushed)
     (record {
       legal = subst (λ ps. AreLegalPhases c 0 ps (reports ++ report ∷ [])) longer
           (phases_pushed c 0 front reports phase report so_far.legal
-          (subst (λ g. AreLegalSessions c g phase.sessions report.sessions) floor (legal_sessions p s o grade from phase.sessions report.sessions reached told))
+          (subst (λ g. AreLegalSessions c (max opened g) phase.sessions report.sessions) so_far.grade_is
+          (legal_sessions p s o opened (max opened grade) from phase.sessions report.sessions reached told))
           (subst (λ g. IsLevelShown o.levels (case_reach c g) report.level) grows level));
       grade_is = grows ∙ sym (grade_pushed c 0 front phase) ∙ ap (grade_upto c 0) longer;
     })
 
-pub none_served : (p : Place) (o : Options) (phases : List Phase) → AreServedUpto p o phases 0 0 []
-none_served p o phases = record { legal = tt; grade_is = refl }
+pub none_served : (p : Place) (o : Options) (opened : ℕ) (phases : List Phase) → AreServedUpto p o opened phases 0 0 []
+none_served p o opened phases = record { legal = tt; grade_is = refl }
 
 -- ---- the most sessions
 

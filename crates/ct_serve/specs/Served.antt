@@ -13,7 +13,9 @@ use Rattle.ct_book.specs.Benches.{desk_place}
 use Rattle.ct_session.specs.declared.lines.Line.{Line}
 use Rattle.ct_session.specs.Shown.{HasReached, AreShown}
 use Rattle.ct_host.specs.Hosts.{HostSeen, PassSeen, IsOfHost}
-use Rattle.ct_answer.specs.Told.{AreEach}
+use Rattle.ct_legal.specs.Cases.{Case}
+use Rattle.ct_answer.specs.declared.options.Options.{Options}
+use Rattle.ct_answer.specs.Told.{case_at, AreEach}
 use Rattle.ct_serve.specs.declared.reaching.Held.{Held}
 use Rattle.ct_serve.specs.declared.parts.Job.{Job}
 use Rattle.ct_serve.specs.declared.parts.Job.TheVariants.{Idle, Work, Run}
@@ -24,6 +26,10 @@ use Rattle.ct_serve.specs.declared.parts.Kept.{Kept}
 use Rattle.ct_serve.specs.declared.parts.Done.{Done}
 
 -- ---- the main part
+
+-- the case of a place that was opened at a grade
+abbrev pub case_from : Place → Options → ℕ → Case
+case_from p o opened = record (case_at p o) { opened = opened }
 
 -- a version of the place that has reached the grade, with how far a completion for that grade comes
 pub record IsHeld (p : Place) (g : ℕ) (h : Held) : Type 0 where

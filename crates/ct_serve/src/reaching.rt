@@ -1,5 +1,6 @@
 //! What the main part holds.
-ghost use Rattle.std.specs.Prelude.{◌≡◌, ◌≤◌, IfOk};
+ghost use Rattle.std.specs.Prelude.{◌≡◌, ◌≤◌, ◌⊎◌, IfOk};
+ghost use Rattle.std.specs.Arc.{arc_value};
 ghost use Rattle.ct_vectors.specs.declared.limits.TheConstants.{GRADE_LIMIT};
 ghost use Rattle.ct_book.specs.Benches.{desk_place};
 ghost use Rattle.ct_host.specs.Hosts.{IsOfHost};
@@ -11,7 +12,7 @@ use ct_version::{Finished, Stop, Version};
 use std::alloc::AllocError;
 use std::sync::{Arc, Wait};
 
-/// What the main part holds once a grade is worked for.
+/// What is reached once a grade is worked for.
 #[derive(Drop)]
 pub struct Held {
     /// A version that has reached what the limit on the number of moves allows for the grade.
@@ -41,5 +42,18 @@ pub fn reach<R: Wait, G>(
             version: mark.version,
         }),
         Err(Stop::Memory) => Err(AllocError),
+    }
+}
+
+/// The version with the greater number, which has reached what either has.
+pub fn greater_held(held: Arc<Version>, reached: Arc<Version>) -> Arc<Version>
+    ensures either { (arc_value result ≡ arc_value held) ⊎ (arc_value result ≡ arc_value reached) }
+    ensures held { (arc_value held).number ≤ (arc_value result).number }
+    ensures reached { (arc_value reached).number ≤ (arc_value result).number }
+{
+    if reached.number() < held.number() {
+        held
+    } else {
+        reached
     }
 }

@@ -1,17 +1,18 @@
 //! A script is served.
 ghost use Rattle.std.specs.Prelude.{◌≡◌, ◌≤◌, ◌+◌, All, IfOk, length, vec_len};
 ghost use Rattle.std.specs.Arc.{arc_value};
-ghost use Rattle.ct_vectors.specs.declared.limits.TheConstants.{MOVE_LIMIT, WORKER_LIMIT, SESSION_LIMIT, PASS_LIMIT};
+ghost use Rattle.ct_vectors.specs.declared.limits.TheConstants.{GRADE_LIMIT, MOVE_LIMIT, WORKER_LIMIT, SESSION_LIMIT, PASS_LIMIT};
+ghost use Rattle.ct_instance.specs.TestSet.{test_list};
 ghost use Rattle.ct_input.specs.Script.{IsPhase, IsScript};
 ghost use Rattle.ct_version.specs.Editions.{level_seen};
 ghost use Rattle.ct_book.specs.Benches.{desk_place};
 ghost use Rattle.ct_host.specs.Hosts.{IsOfHost};
 ghost use Rattle.ct_legal.specs.Cases.{plain_case};
 ghost use Rattle.ct_legal.specs.Legal.{IsLevelShown, AreLegalPhases, IsLegalServed};
-ghost use Rattle.ct_answer.specs.Told.{case_at};
+ghost use Rattle.ct_serve.specs.Served.{case_from};
 
 use crate::phases::run_phase;
-use crate::reaching::reach;
+use crate::reaching::{greater_held, reach};
 use crate::shared::Shared;
 use ct_answer::{Options, raised};
 use ct_host::{Host, HostPass};
@@ -19,6 +20,7 @@ use ct_input::{Phase, Script};
 use ct_instance::Instance;
 use ct_point::Seq;
 use ct_report::{PhaseReport, Report};
+use ct_resume::Resumed;
 use ct_version::{Finished, Gate};
 use std::alloc::{AllocError, Global};
 use std::sync::{Arc, Wait};
@@ -44,59 +46,73 @@ fn most_sessions(phases: &[Phase]) -> usize
     most
 }
 
-// The report of each phase.
+// A pass for the main part, one for each worker, and one for each session of the phase with the most of them.
+fn passes_for(phases: &[Phase], workers: u32) -> u32
+    requires workers { workers ≤ WORKER_LIMIT }
+    requires sessions { All (λ phase. length phase.sessions ≤ SESSION_LIMIT) phases.now }
+    ensures some { 1 ≤ result }
+    ensures limit { result ≤ PASS_LIMIT }
+    ensures enough { All (λ phase. 1 + workers + length phase.sessions ≤ result) phases.now }
+{
+    1 + workers + most_sessions(phases) as u32
+}
+
+// The report of each phase, of a run that began at the grade `opened`.
 fn phases_of<R: Threads + Wait + Sync, G: Gate + Sync>(
     shared: &Shared<'_, R, G>,
     mut main: HostPass,
     mut passes: Vec<HostPass>,
+    opened: u64,
     phases: &[Phase],
     workers: u32,
 ) -> Result<Seq<PhaseReport>, AllocError>
     requires main { IsOfHost shared.now.host.now main }
     requires own { All (IsOfHost shared.now.host.now) passes.items }
     requires enough { All (λ phase. workers + length phase.sessions ≤ vec_len passes) phases.now }
+    requires opened { opened ≤ GRADE_LIMIT }
     requires instance { arc_value shared.now.inst.now ≡ shared.now.host.now.place.instance }
     requires limit { shared.now.options.limit ≡ shared.now.host.now.place.limit }
     requires phases { All (IsPhase shared.now.host.now.place.instance.rows) phases.now }
-    ensures { IfOk result (AreLegalPhases (case_at (desk_place shared.now.host.now.place) shared.now.options) 0 phases.now) }
+    ensures { IfOk result (AreLegalPhases (case_from (desk_place shared.now.host.now.place) shared.now.options opened) 0 phases.now) }
 {
     let rows = shared.inst.rows();
     let mut told = Vec::new(shared.alloc);
     let mut grade = 0;
-    let mut held = reach(shared, &mut main, 0)?;
+    let mut held = reach(shared, &mut main, opened)?.version;
     for phase in phases {
-        let (back, sessions) = run_phase(shared, passes, &held.version, phase, workers)?;
+        let (back, sessions) = run_phase(shared, passes, &held, phase, workers)?;
         passes = back;
         grade = raised(grade, rows, phase, false);
-        held = reach(shared, &mut main, grade)?;
-        let level = shown(held.level, shared.options.levels);
+        let reached = reach(shared, &mut main, grade)?;
+        held = greater_held(held, reached.version);
+        let level = shown(reached.level, shared.options.levels);
         told.push(PhaseReport { sessions, level })?;
     }
     Ok(Seq::from_vec(told))
 }
 
-// A host of so many passes, with one of them for the main part, and the others.
-fn opened(
-    alloc: Global,
-    inst: Arc<Instance>,
-    limit: u32,
-    count: u32,
-) -> Result<(Host, HostPass, Vec<HostPass>), AllocError>
-    requires some { 1 ≤ limit }
-    requires most { limit ≤ MOVE_LIMIT }
-    requires some_pass { 1 ≤ count }
-    requires few_passes { count ≤ PASS_LIMIT }
-    ensures instance { IfOk result (λ r. r.0.place.instance ≡ arc_value inst) }
-    ensures limit { IfOk result (λ r. r.0.place.limit ≡ limit) }
-    ensures main { IfOk result (λ r. IsOfHost r.0 r.1) }
-    ensures own { IfOk result (λ r. All (IsOfHost r.0) r.2.items) }
-    ensures count { IfOk result (λ r. vec_len r.2 + 1 ≡ count) }
+// The report of a run that began at the grade `opened`, over the passes of a host: one of them is for the main part.
+fn served<R: Threads + Wait + Sync, G: Gate + Sync>(
+    shared: &Shared<'_, R, G>,
+    mut passes: Vec<HostPass>,
+    opened: u64,
+    phases: &[Phase],
+    workers: u32,
+) -> Result<Report, AllocError>
+    requires own { All (IsOfHost shared.now.host.now) passes.items }
+    requires some { 1 ≤ vec_len passes }
+    requires enough { All (λ phase. 1 + workers + length phase.sessions ≤ vec_len passes) phases.now }
+    requires opened { opened ≤ GRADE_LIMIT }
+    requires instance { arc_value shared.now.inst.now ≡ shared.now.host.now.place.instance }
+    requires limit { shared.now.options.limit ≡ shared.now.host.now.place.limit }
+    requires phases { All (IsPhase shared.now.host.now.place.instance.rows) phases.now }
+    ensures { IfOk result (λ report. AreLegalPhases (case_from (desk_place shared.now.host.now.place) shared.now.options opened) 0 phases.now report.phases) }
 {
-    let (host, mut passes) = Host::open(alloc, inst, limit, count)?;
     let Some(main) = passes.pop() else {
         unreachable!()
     };
-    Ok((host, main, passes))
+    let phases = phases_of(shared, main, passes, opened, phases, workers)?;
+    Ok(Report { phases })
 }
 
 /// Serves a script. In each phase so many workers, 0 to 16, complete the test set up to the phase's target, while the
@@ -122,8 +138,8 @@ pub fn serve_report<R: Threads + Wait + Sync, G: Gate + Sync>(
     ensures { IfOk result (IsLegalServed (plain_case (arc_value inst.now) options.limit options.walks options.levels) script.now) }
 {
     let phases = script.phases.as_slice();
-    let count = 1 + workers + most_sessions(phases) as u32;
-    let (host, main, passes) = opened(alloc, Arc::try_clone(inst)?, options.limit, count)?;
+    let count = passes_for(phases, workers);
+    let (host, passes) = Host::open(alloc, Arc::try_clone(inst)?, options.limit, count)?;
     let shared = Shared {
         rt,
         alloc,
@@ -132,6 +148,44 @@ pub fn serve_report<R: Threads + Wait + Sync, G: Gate + Sync>(
         gate,
         options,
     };
-    let phases = phases_of(&shared, main, passes, phases, workers)?;
-    Ok(Report { phases })
+    served(&shared, passes, 0, phases, workers)
+}
+
+/// Serves a script as [`serve_report`] does, from the test list of a grade on: the first sessions begin with a version that
+/// covers it, and no later ones with an older. It takes the memory of a book that opens at the grade in place of one at
+/// version 0.
+pub fn serve_report_at<R: Threads + Wait + Sync, G: Gate + Sync>(
+    rt: &R,
+    alloc: Global,
+    inst: &Arc<Instance>,
+    resumed: Resumed,
+    script: &Script,
+    workers: u32,
+    options: Options,
+    gate: &G,
+) -> Result<Report, AllocError>
+    requires workers { workers ≤ WORKER_LIMIT }
+    requires some { 1 ≤ options.limit }
+    requires most { options.limit ≤ MOVE_LIMIT }
+    requires script { IsScript (arc_value inst.now).rows script.now }
+    requires grade { resumed.grade ≤ GRADE_LIMIT }
+    requires instance { resumed.moves.instance ≡ arc_value inst.now }
+    requires list { resumed.moves.moves ≡ test_list (arc_value inst.now) resumed.grade }
+    requires within { length resumed.moves.moves ≤ options.limit }
+    ensures { IfOk result (IsLegalServed (record (plain_case (arc_value inst.now) options.limit options.walks options.levels) { opened = resumed.grade }) script.now) }
+{
+    let phases = script.phases.as_slice();
+    let count = passes_for(phases, workers);
+    let Resumed { moves, grade } = resumed;
+    let inst_of_host = Arc::try_clone(inst)?;
+    let (host, passes) = Host::open_at(alloc, inst_of_host, options.limit, count, moves, grade)?;
+    let shared = Shared {
+        rt,
+        alloc,
+        host: &host,
+        inst,
+        gate,
+        options,
+    };
+    served(&shared, passes, grade, phases, workers)
 }

@@ -7,6 +7,7 @@ use Rattle.ct_input.specs.declared.script.Phase.{Phase}
 use Rattle.ct_input.specs.Script.{IsPhase}
 use Rattle.ct_book.specs.Benches.{desk_place}
 use Rattle.ct_answer.proofs.Pairing.{at_item}
+use Rattle.ct_serve.proofs.ReachedGrades.{reached_on, either_place}
 use Rattle.ct_serve.proofs.ServedPhases.{served_more}
 use Rattle.ct_serve.proofs.serving.phases_of.Goals as goal
 
@@ -28,14 +29,18 @@ pub loop-phase-preserved : goal.loop-phase-preserved
 loop-phase-preserved g c =
     let inside : c.loop-phase.phase-index < length c.args.phases.now = omega arith in
     let p = desk_place c.args.shared.now.host.now.place in
+    let kept = c.greater_held-held.ensures in
     record {
       main = c.reach-in-loop-phase.ensures.own;
       own = c.in_ok-back.ensures.own;
       count = c.in_ok-back.ensures.count ∙ c.loop-phase.invariant.count;
       limit = c.raised-grade.ensures.limit;
-      held = c.in_ok-held-2.ensures.held;
-      served = served_more p (subst IsInstance (c.deref.ensures ∙ c.requires.instance) c.rows-rows.ensures.instance) c.args.shared.now.options c.args.phases.now c.loop-phase.phase-index
-          c.loop-phase.grade c.raised-grade.result (arc_value c.loop-phase.held.version).number c.loop-phase.told.items _ c.phase-item.result _ inside c.phase-item.is
-          c.loop-phase.invariant.served c.raised-grade.ensures.greatest (c.loop-phase.invariant.held).reached c.in_ok-back.ensures.told
-          (subst (λ (l : Level). IsLevelShown c.args.shared.now.options.levels l c.shown-level.result) (c.in_ok-held-2.ensures.held).level c.shown-level.ensures) c.in_ok-push.ensures.items;
+      version = either_place p (arc_value c.loop-phase.held) (arc_value c.in_ok-reached.reached.version) (arc_value c.greater_held-held.result) kept.either
+          c.loop-phase.invariant.version (c.in_ok-reached.ensures.held).version;
+      reached = reached_on p c.args.opened c.loop-phase.grade c.raised-grade.result _ _ (arc_value c.greater_held-held.result).number
+          (omega (arith, c.raised-grade.ensures.greatest)) kept.held kept.reached c.loop-phase.invariant.reached (c.in_ok-reached.ensures.held).reached;
+      served = served_more p (subst IsInstance (c.deref.ensures ∙ c.requires.instance) c.rows-rows.ensures.instance) c.args.shared.now.options c.args.opened c.args.phases.now c.loop-phase.phase-index
+          c.loop-phase.grade c.raised-grade.result (arc_value c.loop-phase.held).number c.loop-phase.told.items _ c.phase-item.result _ inside c.phase-item.is
+          c.loop-phase.invariant.served c.raised-grade.ensures.greatest c.loop-phase.invariant.reached c.in_ok-back.ensures.told
+          (subst (λ (l : Level). IsLevelShown c.args.shared.now.options.levels l c.shown-level.result) (c.in_ok-reached.ensures.held).level c.shown-level.ensures) c.in_ok-push.ensures.items;
     }

@@ -1,12 +1,18 @@
-use Rattle.std.proofs.Common.{◌≤◌, All, length, sym, subst}
-use Rattle.std.specs.Arc.{arc_value}
-use Rattle.std.proofs.lemmas.List.Elements.{All-weaker}
-use Rattle.ct_vectors.specs.declared.limits.TheConstants.{SESSION_LIMIT}
+use Rattle.std.proofs.Common.{◌+◌, ◌≤◌, ◌≡◌, [], All, length, vec_len, subst, arith}
 use Rattle.ct_input.specs.declared.script.Phase.{Phase}
-use Rattle.ct_input.specs.Script.{IsPhase}
+use Rattle.ct_serve.proofs.Opening.{opened_are}
 use Rattle.ct_serve.proofs.serving.serve_report.Goals as goal
 
-pub most_sessions-requires : goal.most_sessions-requires
-most_sessions-requires g c =
-    subst (All (λ (p : Phase). length p.sessions ≤ SESSION_LIMIT)) (sym c.as_slice-phases.ensures)
-    (All-weaker (IsPhase (arc_value c.args.inst.now).rows) (λ (p : Phase). length p.sessions ≤ SESSION_LIMIT) (λ p is. is.few) c.args.script.now.phases c.requires.script)
+pub served-requires-clause-own : goal.served-requires-clause-own
+served-requires-clause-own g c κs within = (opened_are c.in_ok-host.host 0 [] c.passes_for-count.result c.in_ok-host.passes.items c.in_ok-host.ensures.passes).0
+
+pub served-requires-clause-some : goal.served-requires-clause-some
+served-requires-clause-some g c κs within =
+    let count = (opened_are c.in_ok-host.host 0 [] c.passes_for-count.result c.in_ok-host.passes.items c.in_ok-host.ensures.passes).1 in
+    omega (arith, count, c.in_ok-host.passes.ok.0, c.passes_for-count.ensures.some)
+
+pub served-requires-clause-enough : goal.served-requires-clause-enough
+served-requires-clause-enough g c κs within =
+    let count = (opened_are c.in_ok-host.host 0 [] c.passes_for-count.result c.in_ok-host.passes.items c.in_ok-host.ensures.passes).1 in
+    let same : c.passes_for-count.result ≡ vec_len c.in_ok-host.passes = omega (arith, count, c.in_ok-host.passes.ok.0) in
+    subst (λ n. All (λ (p : Phase). 1 + c.args.workers + length p.sessions ≤ n) c.as_slice-phases.result.now) same c.passes_for-count.ensures.enough

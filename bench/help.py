@@ -31,16 +31,16 @@ def number(said):
 
 
 def table():
-    """Of each command the bounds of its words, None for a file, and of its options, None for a flag."""
+    """Of each command the bounds of its words, None for a file, and of its options, None for a flag and "file" for a file."""
     for name, value in re.findall(r"pub const (\w+): \w+ = ([^;+-]+);", text("crates/ct_vectors/src/limits.rt")):
         NUMBERS[name] = number(value)
     source = text("crates/ct_words/src/table.rt")
     pair = r"Bounds \{\s*low: ([^,]+),\s*high: ([^,}]+?),?\s*\}"
     bounds = {name: (number(low), number(high)) for name, low, high in re.findall(rf"const (\w+): Bounds = {pair};", source)}
     options = {}
-    for const, name, given in re.findall(r'const (\w+): OptionRow = OptionRow \{\s*name: "([\w-]+)",\s*bounds: (.*?),\s*\};', source, re.S):
+    for const, name, given in re.findall(r'const (\w+): OptionRow = OptionRow \{\s*name: "([\w-]+)",\s*takes: (.*?),\s*\};', source, re.S):
         found = re.search(pair, given)
-        options[const] = (name, tuple(map(number, found.groups())) if found else None)
+        options[const] = (name, tuple(map(number, found.groups())) if found else "file" if "Name" in given else None)
     commands = {}
     for name, places, listed in re.findall(r'CommandRow \{\s*command: [\w:]+,\s*name: "([\w-]+)",\s*places: &\[(.*?)\],\s*options: &\[(.*?)\],\s*\}', source, re.S):
         words = [it.strip() for it in places.split(",") if it.strip()]
@@ -57,7 +57,7 @@ def told(said):
     for name, rest in re.findall(r"(?m)^  ct (\w+)(.*)$", said):
         flags = re.findall(r"\[--([\w-]+)( [A-Z]+)?\]", rest)
         words = re.sub(r"\[.*?\]", "", rest).split()
-        commands[name] = ([spans.get(it) for it in words], {it: values[it] if value else None for it, value in flags})
+        commands[name] = ([spans.get(it) for it in words], {it: values.get(it, "file") if value else None for it, value in flags})
     return commands
 
 

@@ -15,7 +15,7 @@ of 1, 5, 10 and 25, and two phases of two sessions in coins of 3 and 5, with wal
 writes, or with status 7 and nothing written; where a thread is refused, with the report.
 
 `answer` of the second input and `best` of a request, both also of a form with a slack and a bound, and `answer --batch` of 3,000
-requests: a run ends with its text, or with status 7 and nothing written.
+requests, and `serve` of two asks with a ledger, also of that form: a run ends with its text, or with status 7 and nothing written.
 
 `answer` and `serve` with a full device and with a pipe that was closed before the first byte end with status 6 and by no
 signal; with a pipe that is read one byte at a time they end with status 0, and all bytes came.
@@ -35,6 +35,7 @@ THREES = "instance 1 rows 1 columns 2 matrix 3 5 cost 2 3 end"
 FORM = "instance 2 rows 1 columns 2 matrix 3 5 relations le bounds 2 - cost -2 -3 end"
 EIGHT = "sessions 1 phase 0" + 8 * " session solve 94 solve 41 solve 7 solve 0" + " end"
 PHASES = "sessions 1 phase 8" + 2 * " session solve 15 solve 8" + " phase 21" + 2 * " session solve 7 solve 30" + " end"
+ASKS = "sessions 1 phase 0 session ask 11 ask 16 end"
 BATCH = "sessions 1 phase 0 session" + "".join(f" solve {number}" for number in range(3000)) + " end"
 LONG = "sessions 1 phase 0 session" + "".join(f" solve {number % 95}" for number in range(10000)) + " end"
 INPUTS = (("coins of four kinds", COINS, EIGHT, []), ("coins of 3 and 5", THREES, PHASES, ["--walks"]))
@@ -144,6 +145,11 @@ def main():
         for command, instance, sessions, more in sets:
             words = [ct, command, file("instance", instance), file("sessions", sessions), *more]
             refuse(" ".join([command, *more]), words, library, MEMORY, whole_output(words))
+        for instance, grade in ((THREES, "15"), (FORM, "13")):
+            files = [file("instance", instance), file("sessions", ASKS)]
+            ledger = file("ledger", whole_output([ct, "certify", files[0], grade]).decode())
+            words = [ct, "serve", *files, "--workers", "0", "--levels", "--resume", ledger]
+            refuse(f"serve with a ledger up to {grade}", words, library, MEMORY, whole_output(words))
         for name, instance, sessions, options in INPUTS:
             files = [file("instance", instance), file("sessions", sessions), *options]
             report = whole_output([ct, "answer", *files])

@@ -28,7 +28,7 @@ use Rattle.ct_gen.specs.Tallies.{lines_of, tally_of, summary_of}
 use Rattle.ct_gen.specs.SummaryText.{summary_text}
 use Rattle.ct_gen.proofs.MadeInputs.{made_is_instance}
 use Rattle.ct_run.specs.declared.status.Status.TheVariants.{Done, BadLedger, LedgerRefused}
-use Rattle.ct_run.specs.Checked.{IsVerdictEnding, over, faulty, weighed}
+use Rattle.ct_run.specs.Checked.{IsVerdictEnding, over, faulty, bad, weighed}
 use Rattle.ct_run.specs.Summarised.{made_case}
 use Rattle.ct_promise.specs.Beside.{CheckedDecides, OneCertificate, OneSummary}
 
@@ -39,10 +39,10 @@ accepted_of i l (Accepted grade moves) text ending = ending.0
 accepted_of i l (Refused line reason) text ending = let e : Done ≡ LedgerRefused = (ending.1).0 in absurd (cc)
 
 pub checked_decides : CheckedDecides
-checked_decides i inst bytes text (over long status written) = let e : Done ≡ BadLedger = status in absurd (cc)
-checked_decides i inst bytes text (faulty line short fault status written) = let e : Done ≡ BadLedger = status in absurd (cc)
-checked_decides i inst bytes text (weighed l short is same ending) =
-    record { ledger = l; text = same; decides = ledger_decides i inst l is (accepted_of i l (verdict_of i l) text ending) }
+checked_decides i inst bytes text (bad (over long status written)) = let e : Done ≡ BadLedger = status in absurd (cc)
+checked_decides i inst bytes text (bad (faulty line short fault status written)) = let e : Done ≡ BadLedger = status in absurd (cc)
+checked_decides i inst bytes text (weighed l file ending) =
+    record { ledger = l; text = file.text; decides = ledger_decides i inst l file.ledger (accepted_of i l (verdict_of i l) text ending) }
 
 -- ---- certify
 

@@ -45,7 +45,7 @@ pub record IsTrueRun (told : List ℕ → Told) (old new : Option (List ℕ)) (i
 -- `answer` takes each ask as a solve, and `serve` the script as it stands; of other commands this says nothing
 abbrev pub KeepsPromise : (List ℕ → Told) → Option (List ℕ) → Option (List ℕ) → Option Command → Type 0
 KeepsPromise told old new (Some (on instance (answer sessions walks levels batch moves))) = IsTrueRun told old new instance sessions moves walks levels with_solves
-KeepsPromise told old new (Some (serve instance sessions workers walks levels moves)) = IsTrueRun told old new instance sessions moves walks levels (λ script. script)
+KeepsPromise told old new (Some (serve instance sessions resume workers walks levels moves)) = IsTrueRun told old new instance sessions moves walks levels (λ script. script)
 KeepsPromise told old new command = Unit {0}
 
 -- what `run` ensures where it ends as Done is enough

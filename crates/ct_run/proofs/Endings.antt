@@ -10,13 +10,16 @@ use Rattle.ct_ledger.specs.Parts.{LedgerParts}
 use Rattle.ct_checker.specs.declared.verdicts.Verdict.{Verdict}
 use Rattle.ct_checker.specs.declared.verdicts.Verdict.TheVariants.{Accepted, Refused}
 use Rattle.ct_checker.specs.Checking.{verdict_of}
-use Rattle.ct_run.specs.Checked.{IsVerdictEnding, IsChecked, over, faulty, weighed}
+use Rattle.ct_input.specs.declared.script.Script.{Script}
+use Rattle.ct_legal.specs.Cases.{Case}
+use Rattle.ct_run.specs.Checked.{IsVerdictEnding, IsBadLedger, IsLedgerEnding, over, faulty, bad, weighed}
+use Rattle.ct_run.specs.Resumption.{IsResumption, refused, unreduced, opens}
 use Rattle.ct_run.specs.declared.ending.Ending.{Ending}
 use Rattle.ct_run.specs.declared.status.Status.{Status}
 use Rattle.ct_run.specs.declared.status.Status.TheVariants as statuses
 use Rattle.ct_run.specs.declared.stop.Stop.{Stop}
 use Rattle.ct_run.specs.declared.stop.Stop.TheVariants.{Refused, ReadFault, Memory}
-use Rattle.ct_run.specs.Outcome.{RunOutcome, usage, bad_instance, bad_sessions, answered, listed, too_many, certified, full, checked, made, served, IsEnding, Wrote, WroteFront, is_stop, IsUnlessStopped, IsUnlessMemory}
+use Rattle.ct_run.specs.Outcome.{RunOutcome, usage, bad_instance, bad_sessions, answered, listed, too_many, certified, full, checked, made, served, resumed, IsEnding, Wrote, WroteFront, is_stop, IsUnlessStopped, IsUnlessMemory}
 use Rattle.ct_run.specs.Plan.{Plan, ends, asks}
 use Rattle.ct_run.specs.Running.{Ends, WouldEnd, ComesTo, Runs, HasReadFault, NoReadFault}
 use Rattle.ct_run.specs.Stopping.{Fits, StoppedBy, EndedBy, Ran}
@@ -38,10 +41,19 @@ verdict_unstopped : (i : Problem) (l : LedgerParts) (v : Verdict) (status : Stat
 verdict_unstopped i l (Accepted grade moves) status text h = ap is_stop h.1.0
 verdict_unstopped i l (Refused line reason) status text h = ap is_stop h.1.0
 
-checked_unstopped : (i : Problem) (bytes : List ℕ) (status : Status) (text : List ℕ) → IsChecked i bytes status text → is_stop status ≡ false
-checked_unstopped i bytes status text (over long own same) = ap is_stop own
-checked_unstopped i bytes status text (faulty line within fault own same) = ap is_stop own
-checked_unstopped i bytes status text (weighed l within is same verdict) = verdict_unstopped i l (verdict_of i l) status text verdict
+resumption_unstopped : (c : Case) (script : Script) (l : LedgerParts) (status : Status) (text : List ℕ) → IsResumption c script l status text → is_stop status ≡ false
+resumption_unstopped c script l status text (refused line reason first own same) = ap is_stop own
+resumption_unstopped c script l status text (unreduced number accepted first own same) = ap is_stop own
+resumption_unstopped c script l status text (opens accepted reduced own report legal written) = ap is_stop own
+
+bad_unstopped : (bytes : List ℕ) (status : Status) (text : List ℕ) → IsBadLedger bytes status text → is_stop status ≡ false
+bad_unstopped bytes status text (over long own same) = ap is_stop own
+bad_unstopped bytes status text (faulty line within fault own same) = ap is_stop own
+
+ledger_unstopped : (bytes : List ℕ) (status : Status) (text : List ℕ) (Weighed : LedgerParts → Type 0) → ((l : LedgerParts) → Weighed l → is_stop status ≡ false) →
+    IsLedgerEnding bytes status text Weighed → is_stop status ≡ false
+ledger_unstopped bytes status text Weighed own (bad is) = bad_unstopped bytes status text is
+ledger_unstopped bytes status text Weighed own (weighed l file ends_so) = own l ends_so
 
 -- no outcome ends with the status of a stop
 ending_unstopped : (outcome : RunOutcome) (status : Status) (text : List ℕ) → IsEnding outcome status text → is_stop status ≡ false
@@ -55,7 +67,10 @@ ending_unstopped (certified i grade) status text h = ap is_stop h.0
 ending_unstopped (full grade) status text h = ap is_stop h.0
 ending_unstopped (made number) status text h = ap is_stop h.0
 ending_unstopped (served c script) status text h = ap is_stop h.0
-ending_unstopped (checked i bytes) status text h = checked_unstopped i bytes status text h
+ending_unstopped (checked i bytes) status text h =
+    ledger_unstopped bytes status text (λ l. IsVerdictEnding i l (verdict_of i l) status text) (λ l verdict. verdict_unstopped i l (verdict_of i l) status text verdict) h
+ending_unstopped (resumed c script bytes) status text h =
+    ledger_unstopped bytes status text (λ l. IsResumption c script l status text) (λ l is. resumption_unstopped c script l status text is) h
 
 module _ (plan : Plan) (told : List ℕ → Told) (before now : List ℕ → ℕ) where
   came_to : (ending : Ending) → Ran plan told before now (Ok ending) → Ends plan told (λ outcome. Fits outcome ending)

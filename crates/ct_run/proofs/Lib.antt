@@ -11,5 +11,6 @@ pub mod FullGrades
 pub mod Summaries
 pub mod ReportLimits
 pub mod ToldForms
+pub mod Resumptions
 pub mod Listed
 mod Worked

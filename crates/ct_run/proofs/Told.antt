@@ -8,7 +8,7 @@ use Rattle.ct_words.specs.Role.{WordGiven, number_in, ◌>>=◌}
 use Rattle.ct_words.specs.Parts.{WordParts, parts_of, are_distinct}
 use Rattle.ct_words.specs.Said.{WordPlace, text, number, WordsSaid, places_of, told_of, named_of, said_of}
 use Rattle.ct_run.specs.Words.{answer, best, certify, check, Command, on, make, serve, limit_in, workers_in, two_texts, text_and_number, texts_and_number, one_number, as_command, command_of}
-use Rattle.ct_words.specs.Parts.{has_name}
+use Rattle.ct_words.specs.Parts.{has_name, text_of}
 use Rattle.ct_run.proofs.Within.{some_is, map_is, find_has, said_by_row}
 
 abbrev pub IsSaid : Option Command → Type 0
@@ -87,7 +87,7 @@ rows_said = (
           (
             (λ words places given is.
                 let x = two_said words places is in
-                (_, ap (option_map (λ names. serve names.0 names.1 (workers_in given) (has_name (codes "walks") given) (has_name (codes "levels") given) (limit_in given))) x.1)),
+                (_, ap (option_map (λ names. serve names.0 names.1 (text_of (codes "resume") given) (workers_in given) (has_name (codes "walks") given) (has_name (codes "levels") given) (limit_in given))) x.1)),
             tt,
           ),
         ),

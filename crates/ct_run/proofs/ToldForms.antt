@@ -12,7 +12,6 @@ use Rattle.ct_input.specs.declared.script.Request.TheVariants.{Ask, Solve}
 use Rattle.ct_input.specs.declared.script.Script.{Script}
 use Rattle.ct_input.specs.Script.{IsScript}
 use Rattle.ct_report.specs.declared.reports.Report.{Report}
-use Rattle.ct_report.specs.ReportText.{report_text}
 use Rattle.ct_legal.specs.Cases.{Case, plain_case}
 use Rattle.ct_legal.specs.Scripts.{with_solves}
 use Rattle.ct_legal.specs.Legal.{IsLegalServed, IsLegalAnswered}
@@ -22,10 +21,13 @@ use Rattle.ct_form.specs.Laws.{IsItself}
 use Rattle.ct_form.proofs.Solutions.{length-equal_columns}
 use Rattle.ct_form.proofs.Plain.{plain_is_itself}
 use Rattle.ct_form_report.specs.FormCases.{form_case, script_with, widened, trimmed}
+use Rattle.ct_form_report.specs.Laws.{opened_case}
 use Rattle.ct_form_report.proofs.Trimmed.{trimmed_is_legal, widened_with_solves}
 use Rattle.ct_form_report.proofs.Widened.{script_alone, widened_is_script}
+use Rattle.ct_run.specs.declared.ending.Ending.{Ending}
+use Rattle.ct_run.specs.declared.status.Status.TheVariants.{Done}
 use Rattle.ct_run.specs.Outcome.{IsReportOf, IsServedReportOf}
-use Rattle.ct_run.specs.Telling.{IsToldOf}
+use Rattle.ct_run.specs.Telling.{IsToldOf, HasToldText}
 
 -- ---- forms without slack columns
 
@@ -46,9 +48,9 @@ cut-answer i n same b =
     cut-outcome n (nat_eq (art_total_of (column_count i) p) 0) x (costs_of i x) (art_total_of (column_count i) p)
     (take_all n x (omega (arith, same, length-take (column_count i) p)))
 
-abbrev case_with : Problem → ℕ → Bool → Bool → (List ℕ → List ℕ) → (List ℕ → Outcome) → Case
-case_with i limit walks levels right shown =
-    record { instance = i; right = right; shown = shown; limit = limit; walks = walks; levels = levels; opened = 0 }
+abbrev case_with : Problem → ℕ → Bool → Bool → ℕ → (List ℕ → List ℕ) → (List ℕ → Outcome) → Case
+case_with i limit walks levels opened right shown =
+    record { instance = i; right = right; shown = shown; limit = limit; walks = walks; levels = levels; opened = opened }
 
 module _ (f : Form) (form : IsForm f) (none : column_count (equal_of f) ≡ length f.columns) where
   no_bounds : given_in f.bounds ≡ []
@@ -59,30 +61,30 @@ module _ (f : Form) (form : IsForm f) (none : column_count (equal_of f) ≡ leng
   same_right : (b : List ℕ) → right_for f b ≡ b
   same_right b = ap (λ us. b ++ us) no_bounds ∙ append-nil b
 
-  same_case : (limit : ℕ) (walks levels : Bool) → form_case f limit walks levels 0 ≡ plain_case (equal_of f) limit walks levels
-  same_case limit walks levels =
+  same_case : (limit : ℕ) (walks levels : Bool) (opened : ℕ) → form_case f limit walks levels opened ≡ opened_case (plain_case (equal_of f) limit walks levels) opened
+  same_case limit walks levels opened =
       let shown : (b : List ℕ) → form_answer_of f b ≡ answer_of (equal_of f) b =
       λ b. ap (λ c. cut_to (length f.columns) (answer_of (equal_of f) c)) (same_right b) ∙ cut-answer (equal_of f) (length f.columns) none b in
-      ap₂ (case_with (equal_of f) limit walks levels) (fun_ext same_right) (fun_ext shown)
+      ap₂ (case_with (equal_of f) limit walks levels opened) (fun_ext same_right) (fun_ext shown)
 
   -- of such a form the report is told as it is
   pub told_whole : (report : Report) → IsToldOf f report report
-  told_whole report = λ limit walks levels script legal.
-      subst (λ (c : Case). IsLegalServed c script report) (sym (same_case limit walks levels))
-      (subst (λ (s : Script). IsLegalServed (plain_case (equal_of f) limit walks levels) s report) (ap (λ us. script_with us script) no_bounds ∙ script_alone script) legal)
+  told_whole report = λ limit walks levels opened script legal.
+      subst (λ (c : Case). IsLegalServed c script report) (sym (same_case limit walks levels opened))
+      (subst (λ (s : Script). IsLegalServed (opened_case (plain_case (equal_of f) limit walks levels) opened) s report) (ap (λ us. script_with us script) no_bounds ∙ script_alone script) legal)
 
 pub plain_form_case : (i : Problem) → IsInstance i → (limit : ℕ) (walks levels : Bool) → form_case (plain_form i) limit walks levels 0 ≡ plain_case i limit walks levels
 plain_form_case i inst limit walks levels =
     let is : IsItself i = plain_is_itself i inst in
-    same_case (plain_form i) is.form (ap (λ (p : Problem). column_count p) is.equal) limit walks levels ∙ ap (λ (p : Problem). plain_case p limit walks levels) is.equal
+    same_case (plain_form i) is.form (ap (λ (p : Problem). column_count p) is.equal) limit walks levels 0 ∙ ap (λ (p : Problem). plain_case p limit walks levels) is.equal
 
 -- ---- reports
 
 -- of each form the report is told with its points cut
 pub told_trimmed : {E : Type 0} (f : Form) (report : Report) (columns : ℕ) → columns ≡ length f.columns → (r : Result Report E) →
     IfOk r (λ told. told ≡ trimmed columns report) → IfOk r (IsToldOf f report)
-told_trimmed f report columns same (Ok told) is = λ limit walks levels script legal.
-    subst (λ (t : Report). IsLegalServed (form_case f limit walks levels 0) script t) (sym (is ∙ ap (λ n. trimmed n report) same)) (trimmed_is_legal f limit walks levels 0 script report legal)
+told_trimmed f report columns same (Ok told) is = λ limit walks levels opened script legal.
+    subst (λ (t : Report). IsLegalServed (form_case f limit walks levels opened) script t) (sym (is ∙ ap (λ n. trimmed n report) same)) (trimmed_is_legal f limit walks levels opened script report legal)
 told_trimmed f report columns same (Err e) is = tt
 
 -- a widened script is one of the equality form
@@ -93,16 +95,26 @@ wide_scripts f form script rows given same (Ok wide) is =
     (whole, subst (λ (s : Script). IsScript (equal_of f).rows s) (sym whole) (widened_is_script f form script rows))
 wide_scripts f form script rows given same (Err e) is = (tt, tt)
 
-module _ (f : Form) (i : Problem) (same : i ≡ equal_of f) (script wide : Script) (is : wide ≡ widened f script) where
-  module _ (limit : ℕ) (walks levels : Bool) (report told : Report) (to : IsToldOf f report told) (text : List ℕ) (written : text ≡ report_text told) where
-    pub served_told : IsLegalServed (plain_case i limit walks levels) wide report → IsServedReportOf (form_case f limit walks levels 0) script text
-    served_told legal =
-        let of_form : IsLegalServed (plain_case (equal_of f) limit walks levels) wide report = subst (λ (p : Problem). IsLegalServed (plain_case p limit walks levels) wide report) same legal in
-        (told, (to limit walks levels script (subst (λ (s : Script). IsLegalServed (plain_case (equal_of f) limit walks levels) s report) is of_form), written))
+pub ok_weaker : {A E : Type 0} (P Q : A → Type 0) (r : Result A E) → ((x : A) → P x → Q x) → IfOk r P → IfOk r Q
+ok_weaker P Q (Ok x) weaker holds = weaker x holds
+ok_weaker P Q (Err e) weaker holds = tt
 
-    pub answered_told : IsLegalAnswered (plain_case i limit walks levels) wide report → IsReportOf (form_case f limit walks levels 0) script text
+module _ (f : Form) (i : Problem) (same : i ≡ equal_of f) (script wide : Script) (is : wide ≡ widened f script) where
+  module _ {E : Type 0} (limit : ℕ) (walks levels : Bool) (report : Report) (r : Result Ending E)
+      (told : IfOk r (λ ending. (ending.status ≡ Done) × HasToldText f report ending.text)) where
+    pub served_told : (opened : ℕ) → IsLegalServed (opened_case (plain_case i limit walks levels) opened) wide report →
+        IfOk r (λ ending. (ending.status ≡ Done) × IsServedReportOf (form_case f limit walks levels opened) script ending.text)
+    served_told opened legal =
+        let of_form : IsLegalServed (opened_case (plain_case (equal_of f) limit walks levels) opened) (widened f script) report =
+        subst (λ (s : Script). IsLegalServed (opened_case (plain_case (equal_of f) limit walks levels) opened) s report) is
+        (subst (λ (p : Problem). IsLegalServed (opened_case (plain_case p limit walks levels) opened) wide report) same legal) in
+        ok_weaker _ _ r (λ ending to. (to.0, ((to.1).0, ((to.1).1 limit walks levels opened script of_form, (to.1).2)))) told
+
+    pub answered_told : IsLegalAnswered (plain_case i limit walks levels) wide report →
+        IfOk r (λ ending. (ending.status ≡ Done) × IsReportOf (form_case f limit walks levels 0) script ending.text)
     answered_told legal =
-        let of_form : IsLegalServed (plain_case (equal_of f) limit walks levels) (with_solves wide) report =
-        subst (λ (p : Problem). IsLegalServed (plain_case p limit walks levels) (with_solves wide) report) same legal in
         let solves : with_solves wide ≡ widened f (with_solves script) = ap with_solves is ∙ widened_with_solves f script in
-        (told, (to limit walks levels (with_solves script) (subst (λ (s : Script). IsLegalServed (plain_case (equal_of f) limit walks levels) s report) solves of_form), written))
+        let of_form : IsLegalServed (plain_case (equal_of f) limit walks levels) (widened f (with_solves script)) report =
+        subst (λ (s : Script). IsLegalServed (plain_case (equal_of f) limit walks levels) s report) solves
+        (subst (λ (p : Problem). IsLegalServed (plain_case p limit walks levels) (with_solves wide) report) same legal) in
+        ok_weaker _ _ r (λ ending to. (to.0, ((to.1).0, ((to.1).1 limit walks levels 0 (with_solves script) of_form, (to.1).2)))) told

@@ -7,8 +7,10 @@ use Rattle.ct_text.specs.declared.number.NumberFault.{NumberFault}
 use Rattle.ct_text.specs.declared.number.NumberFault.TheVariants.{Spelling, Over}
 use Rattle.ct_text.specs.Numbers.{natural_of, is_natural, value_of}
 use Rattle.ct_words.specs.declared.table.Bounds.{Bounds}
+use Rattle.ct_words.specs.declared.table.Takes.{Takes}
+use Rattle.ct_words.specs.declared.table.Takes.TheVariants.{Nothing, Number, Name}
 use Rattle.ct_words.specs.Table.{WordOption, WordCommand, commands}
-use Rattle.ct_words.specs.Role.{WordGiven, WordAsked, WordRole, ends, positional, says, opens, at_least, number_in, number_said, said_with, option_of, name_len, plain_of, dashed_of, role_of, ◌>>=◌}
+use Rattle.ct_words.specs.Role.{WordValue, numbered, worded, number_given, WordGiven, WordAsked, WordRole, ends, positional, says, opens, at_least, number_in, is_name, value_in, value_said, said_with, option_of, name_len, plain_of, dashed_of, role_of, ◌>>=◌}
 use Rattle.ct_words.specs.Parts.{WordParts, with_place, with_given, joined, parts_of, are_distinct}
 use Rattle.ct_words.specs.Parts.{value_of as value_named}
 use Rattle.ct_words.specs.Said.{WordPlace, text, number, WordsSaid, place_of, places_of, told_of, named_of, said_of}
@@ -16,7 +18,7 @@ use Rattle.ct_words.proofs.Loops.{parts-word}
 use Rattle.ct_vectors.specs.declared.limits.TheConstants.{GRADE_LIMIT, MOVE_LIMIT, WORKER_LIMIT}
 use Rattle.ct_words.specs.declared.table.CommandName.{CommandName}
 use Rattle.ct_words.specs.declared.table.CommandName.TheVariants.{Best, Certify}
-use Rattle.ct_run.specs.Words.{IsLimit, IsNumberOf, IsPlaceWithin, IsValueOf, HasNumbersWithin, IsBestCount, text_and_number, texts_and_number}
+use Rattle.ct_run.specs.Words.{IsNumberOf, IsPlaceWithin, IsValueOf, HasNumbersWithin, IsBestCount, text_and_number, texts_and_number}
 
 pub some_is : {X : Type 0} {x y : X} → Some x ≡ Some y → x ≡ y
 some_is {X} {x} {y} same = ap (λ o. unwrap_or o x) same
@@ -62,6 +64,11 @@ module _ (Q : ℕ → Type 0) where
       by_value (Ok k) found is = by_low k found (nat_lt k bounds.low) refl is
       by_value (Err fault) found is = absurd (cc)
 
+  -- what an option takes lets its number be that
+  abbrev pub LetsValue : Takes → Type 0
+  LetsValue (Number bounds) = Lets (Some bounds)
+  LetsValue _ = Unit {0}
+
   abbrev pub PlaceHas : WordPlace → Type 0
   PlaceHas (text word) = Unit {0}
   PlaceHas (number n) = Q n
@@ -90,44 +97,60 @@ module _ (Q : ℕ → Type 0) where
 -- of what an option's name lets its value be
 module _ (Q : List ℕ → ℕ → Type 0) where
   abbrev pub HasQ : WordGiven → Type 0
-  HasQ one = (n : ℕ) → one.value ≡ Some n → Q one.name n
+  HasQ one = (n : ℕ) → number_given one.value ≡ Some n → Q one.name n
 
   abbrev LetsAsked : Option WordAsked → Type 0
   LetsAsked None = Unit {0}
-  LetsAsked (Some asked) = Lets (Q asked.name) (Some asked.bounds)
+  LetsAsked (Some asked) = LetsValue (Q asked.name) asked.takes
 
   abbrev HasRole : WordRole → Type 0
   HasRole ends = Unit {0}
   HasRole positional = Unit {0}
   HasRole (says one) = HasQ one
-  HasRole (opens asked) = Lets (Q asked.name) (Some asked.bounds)
+  HasRole (opens asked) = LetsValue (Q asked.name) asked.takes
 
-  number_said-has : (asked : WordAsked) (word : List ℕ) (role : WordRole) → Lets (Q asked.name) (Some asked.bounds) → number_said asked word ≡ Some role → HasRole role
-  number_said-has asked word role lets is = by_number (number_in asked.bounds word) refl is
+  abbrev HasValue : List ℕ → WordValue → Type 0
+  HasValue name value = HasQ (record { name = name; value = value })
+
+  value_in-has : (name : List ℕ) (takes : Takes) (word : List ℕ) (value : WordValue) → LetsValue (Q name) takes → value_in takes word ≡ Some value → HasValue name value
+  value_in-has name Nothing word value lets is = subst (HasValue name) (some_is is) (λ n same. absurd (cc))
+  value_in-has name (Number bounds) word value lets is =
+      let made = map_is numbered (number_in bounds word) value is in
+      subst (HasValue name) made.1.1 (λ n same. subst (Q name) (some_is same) (in_bounds (Q name) bounds word made.0 lets made.1.0))
+  value_in-has name Name word value lets is = by_test (is_name word) is
     where
-      by_number : (o : Option ℕ) → number_in asked.bounds word ≡ o → (o >>= λ n. Some (says (record { name = asked.name; value = Some n }))) ≡ Some role → HasRole role
-      by_number None found is = absurd (cc)
-      by_number (Some n) found is = subst HasRole (some_is is) (λ m same. subst (Q asked.name) (some_is same) (in_bounds (Q asked.name) asked.bounds word n lets found))
+      by_test : (b : Bool) → (if b then Some (worded word) else None) ≡ Some value → HasValue name value
+      by_test true is = subst (HasValue name) (some_is is) (λ n same. absurd (cc))
+      by_test false is = absurd (cc)
 
-  said_with-has : (name : List ℕ) (bounds : Option Bounds) (rest : List ℕ) (role : WordRole) → Lets (Q name) bounds → said_with name bounds rest ≡ Some role → HasRole role
-  said_with-has name None [] role lets is = subst HasRole (some_is is) (λ n same. absurd (cc))
-  said_with-has name None (sign ∷ value) role lets is = absurd (cc)
-  said_with-has name (Some bounds) [] role lets is = subst HasRole (some_is is) lets
-  said_with-has name (Some bounds) (sign ∷ value) role lets is = number_said-has (record { name = name; bounds = bounds }) value role lets is
+  value_said-has : (asked : WordAsked) (word : List ℕ) (role : WordRole) → LetsValue (Q asked.name) asked.takes → value_said asked word ≡ Some role → HasRole role
+  value_said-has asked word role lets is = by_value (value_in asked.takes word) refl is
+    where
+      by_value : (o : Option WordValue) → value_in asked.takes word ≡ o → (o >>= λ value. Some (says (record { name = asked.name; value = value }))) ≡ Some role → HasRole role
+      by_value None found is = absurd (cc)
+      by_value (Some value) found is = subst HasRole (some_is is) (value_in-has asked.name asked.takes word value lets found)
+
+  said_with-has : (name : List ℕ) (takes : Takes) (rest : List ℕ) (role : WordRole) → LetsValue (Q name) takes → said_with name takes rest ≡ Some role → HasRole role
+  said_with-has name Nothing [] role lets is = subst HasRole (some_is is) (λ n same. absurd (cc))
+  said_with-has name Nothing (sign ∷ value) role lets is = absurd (cc)
+  said_with-has name (Number bounds) [] role lets is = subst HasRole (some_is is) lets
+  said_with-has name (Number bounds) (sign ∷ value) role lets is = value_said-has (record { name = name; takes = Number bounds }) value role lets is
+  said_with-has name Name [] role lets is = subst HasRole (some_is is) lets
+  said_with-has name Name (sign ∷ value) role lets is = value_said-has (record { name = name; takes = Name }) value role lets is
 
   plain-has : (waiting : Option WordAsked) (word : List ℕ) (role : WordRole) → LetsAsked waiting → plain_of waiting word ≡ Some role → HasRole role
   plain-has None word role lets is = subst HasRole (some_is is) tt
-  plain-has (Some asked) word role lets is = number_said-has asked word role lets is
+  plain-has (Some asked) word role lets is = value_said-has asked word role lets is
 
-  module _ (options : List WordOption) (all : AllByRecursion (λ row. Lets (Q row.name) row.bounds) options) where
+  module _ (options : List WordOption) (all : AllByRecursion (λ row. LetsValue (Q row.name) row.takes) options) where
     option-has : (named : List ℕ) (role : WordRole) → option_of options named ≡ Some role → HasRole role
     option-has named role is = by_row (find (λ row. bytes_eq row.name (take (name_len named) named)) options) refl is
       where
-        by_row : (o : Option WordOption) → find (λ row. bytes_eq row.name (take (name_len named) named)) options ≡ o → (o >>= λ row. said_with row.name row.bounds (drop (name_len named) named)) ≡ Some role → HasRole role
+        by_row : (o : Option WordOption) → find (λ row. bytes_eq row.name (take (name_len named) named)) options ≡ o → (o >>= λ row. said_with row.name row.takes (drop (name_len named) named)) ≡ Some role → HasRole role
         by_row None found is = absurd (cc)
         by_row (Some row) found is =
-            said_with-has row.name row.bounds (drop (name_len named) named) role
-            (find_has (λ row. Lets (Q row.name) row.bounds) (λ row. bytes_eq row.name (take (name_len named) named)) options row all found) is
+            said_with-has row.name row.takes (drop (name_len named) named) role
+            (find_has (λ row. LetsValue (Q row.name) row.takes) (λ row. bytes_eq row.name (take (name_len named) named)) options row all found) is
 
     dashed-has : (waiting : Option WordAsked) (second : ℕ) (named : List ℕ) (role : WordRole) → dashed_of options waiting second named ≡ Some role → HasRole role
     dashed-has waiting second named role is = by_tests (not (second == 45) || is_some waiting) (length named == 0) is
@@ -169,7 +192,7 @@ module _ (Q : List ℕ → ℕ → Type 0) where
 
 record IsRowWithin (row : WordCommand) : Type 0 where
   places : AllByRecursion (Lets (IsNumberOf row.command)) row.places
-  options : AllByRecursion (λ option. Lets (IsValueOf option.name) option.bounds) row.options
+  options : AllByRecursion (λ option. LetsValue (IsValueOf option.name) option.takes) row.options
 
 same_places : (command : CommandName) (places : List WordPlace) → AllByRecursion (PlaceHas (IsNumberOf command)) places → AllByRecursion (IsPlaceWithin command) places
 same_places command [] all = tt
@@ -203,7 +226,7 @@ moves_value n low high = (λ same. (low, high), λ other. absurd (omega (arith, 
 workers_value : (n : ℕ) → 0 ≤ n → n ≤ WORKER_LIMIT → IsValueOf (codes "workers") n
 workers_value n low high = (λ other. absurd (omega (arith, ap length other)), λ same. high)
 
--- a place for a text, a flag, a number in its bounds
+-- a place for a text, a flag, a name, a number in its bounds
 rows-within : AllByRecursion IsRowWithin commands
 rows-within = (
   record { places = (tt, (tt, tt)); options = (tt, (tt, (tt, (moves_value, tt)))) },
@@ -215,7 +238,7 @@ rows-within = (
         record { places = (tt, (tt, tt)); options = (tt, tt) },
         (
           record { places = (λ n low high. tt, tt); options = tt },
-          (record { places = (tt, (tt, tt)); options = (workers_value, (tt, (tt, (moves_value, tt)))) }, tt),
+          (record { places = (tt, (tt, tt)); options = (workers_value, (tt, (tt, (moves_value, (tt, tt))))) }, tt),
         ),
       ),
     ),
@@ -246,10 +269,10 @@ find_found test (y ∷ ys) x is = by_test (test y) refl (find_found test ys x) i
     by_test false found later is = later is
 
 -- the value of an option is what its name lets it be
-pub value-within : (name : List ℕ) (given : List WordGiven) (n : ℕ) → AllByRecursion (λ one. (n : ℕ) → one.value ≡ Some n → IsValueOf one.name n) given → value_named name given ≡ Some n → IsValueOf name n
+pub value-within : (name : List ℕ) (given : List WordGiven) (n : ℕ) → AllByRecursion (λ one. (n : ℕ) → number_given one.value ≡ Some n → IsValueOf one.name n) given → value_named name given ≡ Some n → IsValueOf name n
 value-within name given n all is = by_one (find (λ one. bytes_eq one.name name) given) refl is
   where
-    by_one : (o : Option WordGiven) → find (λ one. bytes_eq one.name name) given ≡ o → (o >>= λ one. one.value) ≡ Some n → IsValueOf name n
+    by_one : (o : Option WordGiven) → find (λ one. bytes_eq one.name name) given ≡ o → (o >>= λ one. number_given one.value) ≡ Some n → IsValueOf name n
     by_one None found is = absurd (cc)
     by_one (Some one) found is =
         subst (λ m. IsValueOf m n) ((bytes_eq-Decides one.name name).0 (find_found (λ one. bytes_eq one.name name) given one found))

@@ -12,7 +12,7 @@ use Rattle.ct_run.specs.Texts.{newline}
 use Rattle.ct_outside.specs.Shelf.{Told, untold, absent, holds}
 use Rattle.ct_input.specs.declared.fault.Fault.{Fault}
 use Rattle.ct_run.specs.Forms.{form_file, session_file}
-use Rattle.ct_run.specs.declared.status.Status.TheVariants.{Done, Usage, BadInstance, BadSessions, BadLedger, LedgerRefused, Full, TooMany}
+use Rattle.ct_run.specs.declared.status.Status.TheVariants.{Done, Usage, BadInstance, BadSessions, BadLedger, LedgerRefused, Full, NotReduced, TooMany}
 use Rattle.ct_text.specs.Numbers.{natural_of}
 use Rattle.ct_words.specs.Parts.{parts_of}
 use Rattle.ct_words.specs.Said.{places_of}
@@ -22,11 +22,12 @@ use Rattle.ct_ledger.specs.Parts.{LedgerParts}
 use Rattle.ct_checker.specs.declared.verdicts.Verdict.{Verdict}
 use Rattle.ct_checker.specs.declared.verdicts.Verdict.TheVariants.{Accepted, Refused}
 use Rattle.ct_checker.specs.Checking.{verdict_of}
-use Rattle.ct_run.specs.Checked.{IsVerdictEnding, IsChecked, over, faulty, weighed}
+use Rattle.ct_run.specs.Checked.{IsVerdictEnding, IsLedgerEnding, over, faulty, bad, weighed}
+use Rattle.ct_run.specs.Resumption.{IsResumption, refused, unreduced, opens}
 use Rattle.ct_best_report.specs.BestReport.{rights_in}
 use Rattle.ct_answer.specs.declared.options.Options.{Options}
 use Rattle.ct_run.specs.Outcome.{bad_instance, bad_sessions, answered, listed, too_many, served, IsEnding, Wrote}
-use Rattle.ct_run.specs.Plan.{ends, by_value, case_of, listed_or_too_many, ledger_or_full, serve_plan, work_plan, instance_plan, plan_of}
+use Rattle.ct_run.specs.Plan.{ends, by_value, case_of, listed_or_too_many, ledger_or_full, served_plan, serve_plan, work_plan, instance_plan, plan_of}
 use Rattle.ct_run.specs.Running.{HasBytes, Ends}
 
 zero_column_line : IsEnding (bad_instance (Text 5 3 ZeroColumn)) BadInstance (codes "bad instance: line 5 column 3: zero column" ++ newline)
@@ -54,11 +55,11 @@ a_number : command_of (codes "make" ∷ codes "18446744073709551615" ∷ []) ≡
 unfolding parts_of places_of natural_of
 a_number = refl
 
-four_workers : command_of (codes "serve" ∷ codes "K" ∷ codes "S" ∷ codes "--levels" ∷ []) ≡ Some (serve (codes "K") (codes "S") 4 false true 4096)
+four_workers : command_of (codes "serve" ∷ codes "K" ∷ codes "S" ∷ codes "--levels" ∷ []) ≡ Some (serve (codes "K") (codes "S") None 4 false true 4096)
 unfolding parts_of places_of natural_of
 four_workers = refl
 
-no_workers : command_of (codes "serve" ∷ codes "K" ∷ codes "S" ∷ codes "--workers=0" ∷ []) ≡ Some (serve (codes "K") (codes "S") 0 false false 4096)
+no_workers : command_of (codes "serve" ∷ codes "K" ∷ codes "S" ∷ codes "--workers=0" ∷ []) ≡ Some (serve (codes "K") (codes "S") None 0 false false 4096)
 unfolding parts_of places_of natural_of
 no_workers = refl
 
@@ -90,10 +91,15 @@ no_usage_of_verdict : (v : Verdict) (i : Problem) (l : LedgerParts) (text : List
 no_usage_of_verdict (Accepted grade moves) i l text h = let no : Usage ≡ Done = h.1.0 in cc
 no_usage_of_verdict (Refused line reason) i l text h = let no : Usage ≡ LedgerRefused = h.1.0 in cc
 
-no_usage_of_ledger : (i : Problem) (bytes text : List ℕ) → IsChecked i bytes Usage text → ⊥
-no_usage_of_ledger i bytes text (over long own same) = let no : Usage ≡ BadLedger = own in cc
-no_usage_of_ledger i bytes text (faulty line within fault own same) = let no : Usage ≡ BadLedger = own in cc
-no_usage_of_ledger i bytes text (weighed l within is same verdict) = no_usage_of_verdict (verdict_of i l) i l text verdict
+no_usage_of_resumption : (c : Case) (script : Script) (l : LedgerParts) (text : List ℕ) → IsResumption c script l Usage text → ⊥
+no_usage_of_resumption c script l text (refused line reason first own same) = let no : Usage ≡ LedgerRefused = own in cc
+no_usage_of_resumption c script l text (unreduced number accepted first own same) = let no : Usage ≡ NotReduced = own in cc
+no_usage_of_resumption c script l text (opens accepted reduced own report legal written) = let no : Usage ≡ Done = own in cc
+
+no_usage_of_ledger : (bytes text : List ℕ) (Weighed : LedgerParts → Type 0) → ((l : LedgerParts) → Weighed l → ⊥) → IsLedgerEnding bytes Usage text Weighed → ⊥
+no_usage_of_ledger bytes text Weighed other (bad (over long own same)) = let no : Usage ≡ BadLedger = own in cc
+no_usage_of_ledger bytes text Weighed other (bad (faulty line within fault own same)) = let no : Usage ≡ BadLedger = own in cc
+no_usage_of_ledger bytes text Weighed other (weighed l file ends_so) = other l ends_so
 
 no_usage_of_listing : (read : Result Script Fault) (c : Case) (n count : ℕ) (told : List ℕ → Told) (old new : Option (List ℕ)) →
     Ends (by_value bad_sessions (λ script. ends (listed_or_too_many c n count script)) read) told (Wrote Usage old new) → ⊥
@@ -110,28 +116,31 @@ no_usage_by_work (answer sessions walks levels batch moves) f told old new wrote
 no_usage_by_work (best sessions count moves) f told old new wrote =
     of_bytes (told sessions) _ ⊥ (λ bytes. no_usage_of_listing (session_file f.rows bytes) (case_of (record { limit = moves; walks = false; levels = false }) f) (length f.columns) count told old new) wrote
 no_usage_by_work (certify grade moves) f told old new wrote = no_usage_of_grade (full_grade_up_to (equal_of f) moves grade) (equal_of f) grade old new wrote
-no_usage_by_work (check ledger batch) f told old new wrote = of_bytes (told ledger) _ ⊥ (λ bytes w. no_usage_of_ledger (equal_of f) bytes w.0 w.1.0) wrote
+no_usage_by_work (check ledger batch) f told old new wrote = of_bytes (told ledger) _ ⊥ (λ bytes w. no_usage_of_ledger bytes w.0 (λ l. IsVerdictEnding (equal_of f) l (verdict_of (equal_of f) l) Usage w.0)
+    (λ l verdict. no_usage_of_verdict (verdict_of (equal_of f) l) (equal_of f) l w.0 verdict) w.1.0) wrote
 
 no_usage : (read : Result Form Fault) (work : Work) (told : List ℕ → Told) (old new : Option (List ℕ)) →
     Ends (by_value bad_instance (work_plan work) read) told (Wrote Usage old new) → ⊥
 no_usage (Ok f) work told old new wrote = no_usage_by_work work f told old new wrote
 no_usage (Err fault) work told old new wrote = let no : Usage ≡ BadInstance = wrote.1.0.0 in cc
 
-no_usage_served : (read : Result Script Fault) (c : Case) (told : List ℕ → Told) (old new : Option (List ℕ)) →
-    Ends (by_value bad_sessions (λ script. ends (served c script)) read) told (Wrote Usage old new) → ⊥
-no_usage_served (Ok script) c told old new wrote = let no : Usage ≡ Done = wrote.1.0.0 in cc
-no_usage_served (Err fault) c told old new wrote = let no : Usage ≡ BadSessions = wrote.1.0.0 in cc
+no_usage_served : (read : Result Script Fault) (resume : Option (List ℕ)) (c : Case) (told : List ℕ → Told) (old new : Option (List ℕ)) →
+    Ends (by_value bad_sessions (served_plan resume c) read) told (Wrote Usage old new) → ⊥
+no_usage_served (Ok script) None c told old new wrote = let no : Usage ≡ Done = wrote.1.0.0 in cc
+no_usage_served (Ok script) (Some ledger) c told old new wrote =
+    of_bytes (told ledger) _ ⊥ (λ bytes w. no_usage_of_ledger bytes w.0 (λ l. IsResumption c script l Usage w.0) (λ l is. no_usage_of_resumption c script l w.0 is) w.1.0) wrote
+no_usage_served (Err fault) resume c told old new wrote = let no : Usage ≡ BadSessions = wrote.1.0.0 in cc
 
-no_usage_by_serving : (read : Result Form Fault) (options : Options) (sessions : List ℕ) (told : List ℕ → Told) (old new : Option (List ℕ)) →
-    Ends (by_value bad_instance (serve_plan sessions options) read) told (Wrote Usage old new) → ⊥
-no_usage_by_serving (Ok f) options sessions told old new wrote =
-    of_bytes (told sessions) _ ⊥ (λ bytes. no_usage_served (session_file f.rows bytes) (case_of options f) told old new) wrote
-no_usage_by_serving (Err fault) options sessions told old new wrote = let no : Usage ≡ BadInstance = wrote.1.0.0 in cc
+no_usage_by_serving : (read : Result Form Fault) (options : Options) (sessions : List ℕ) (resume : Option (List ℕ)) (told : List ℕ → Told) (old new : Option (List ℕ)) →
+    Ends (by_value bad_instance (serve_plan sessions resume options) read) told (Wrote Usage old new) → ⊥
+no_usage_by_serving (Ok f) options sessions resume told old new wrote =
+    of_bytes (told sessions) _ ⊥ (λ bytes. no_usage_served (session_file f.rows bytes) resume (case_of options f) told old new) wrote
+no_usage_by_serving (Err fault) options sessions resume told old new wrote = let no : Usage ≡ BadInstance = wrote.1.0.0 in cc
 
 usage_only : (command : Option Command) (told : List ℕ → Told) (old new : Option (List ℕ)) → Ends (plan_of command) told (Wrote Usage old new) → command ≡ None
 usage_only None told old new wrote = refl
 usage_only (Some (on instance work)) told old new wrote =
     absurd (of_bytes (told instance) _ ⊥ (λ bytes. no_usage (form_file bytes) work told old new) wrote)
 usage_only (Some (make number)) told old new wrote = let no : Usage ≡ Done = wrote.1.0.0 in absurd (cc)
-usage_only (Some (serve instance sessions workers walks levels moves)) told old new wrote =
-    absurd (of_bytes (told instance) _ ⊥ (λ bytes. no_usage_by_serving (form_file bytes) (record { limit = moves; walks = walks; levels = levels }) sessions told old new) wrote)
+usage_only (Some (serve instance sessions resume workers walks levels moves)) told old new wrote =
+    absurd (of_bytes (told instance) _ ⊥ (λ bytes. no_usage_by_serving (form_file bytes) (record { limit = moves; walks = walks; levels = levels }) sessions resume told old new) wrote)

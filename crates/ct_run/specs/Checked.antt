@@ -45,9 +45,22 @@ abbrev pub IsVerdictEnding : Problem → LedgerParts → Verdict → Status → 
 IsVerdictEnding i l (Accepted grade moves) status text = IsAccepted i l × ((status ≡ Done) × (text ≡ accepted_text grade moves))
 IsVerdictEnding i l (Refused line reason) status text = (IsAccepted i l → ⊥) × ((status ≡ LedgerRefused) × (text ≡ refused_text line reason))
 
--- The file is over its limit; or it is the text of no ledger, and this line is at fault; or it is the text of a ledger, on
--- which this is the verdict.
-pub data IsChecked (i : Problem) (bytes : List ℕ) (status : Status) (text : List ℕ) : Type 0 where
-  over : LEDGER_FILE_LIMIT < length bytes → status ≡ BadLedger → text ≡ too_long_text → IsChecked i bytes status text
-  faulty : (line : ℕ) → length bytes ≤ LEDGER_FILE_LIMIT → IsFaultLine IsLedgerText bytes line → status ≡ BadLedger → text ≡ bad_line_text line → IsChecked i bytes status text
-  weighed : (l : LedgerParts) → length bytes ≤ LEDGER_FILE_LIMIT → IsLedger l → bytes ≡ ledger_text l → IsVerdictEnding i l (verdict_of i l) status text → IsChecked i bytes status text
+-- the file is over its limit; or it is the text of no ledger, and this line is at fault
+pub data IsBadLedger (bytes : List ℕ) (status : Status) (text : List ℕ) : Type 0 where
+  over : LEDGER_FILE_LIMIT < length bytes → status ≡ BadLedger → text ≡ too_long_text → IsBadLedger bytes status text
+  faulty : (line : ℕ) → length bytes ≤ LEDGER_FILE_LIMIT → IsFaultLine IsLedgerText bytes line → status ≡ BadLedger → text ≡ bad_line_text line → IsBadLedger bytes status text
+
+-- the file is within its limit, and the text of this ledger
+pub record IsLedgerFile (bytes : List ℕ) (l : LedgerParts) : Type 0 where
+  pub few : length bytes ≤ LEDGER_FILE_LIMIT
+  pub ledger : IsLedger l
+  pub text : bytes ≡ ledger_text l
+
+-- the file is bad, or that of a ledger, and this is how its ledger ends
+pub data IsLedgerEnding (bytes : List ℕ) (status : Status) (text : List ℕ) (Weighed : LedgerParts → Type 0) : Type 0 where
+  bad : IsBadLedger bytes status text → IsLedgerEnding bytes status text Weighed
+  weighed : (l : LedgerParts) → IsLedgerFile bytes l → Weighed l → IsLedgerEnding bytes status text Weighed
+
+-- the check of a file, by the verdict on its ledger
+abbrev pub IsChecked : Problem → List ℕ → Status → List ℕ → Type 0
+IsChecked i bytes status text = IsLedgerEnding bytes status text (λ l. IsVerdictEnding i l (verdict_of i l) status text)

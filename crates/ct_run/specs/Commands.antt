@@ -1,4 +1,5 @@
 -- What the program's commands stand for.
+use Rattle.std.specs.Prelude.{option_map}
 use Rattle.ct_run.specs.declared.words.Work.{Work as RustWork}
 use Rattle.ct_run.specs.declared.words.Work.TheVariants.{Answer, Best, Certify, Check}
 use Rattle.ct_run.specs.declared.words.Command.{Command as Rust}
@@ -14,4 +15,4 @@ work_seen (Check ledger batch) = check ledger.now batch
 abbrev pub seen : Rust → Command
 seen (On instance work) = on instance.now (work_seen work)
 seen (Make number) = make number
-seen (Serve instance sessions workers walks levels moves) = serve instance.now sessions.now workers walks levels moves
+seen (Serve instance sessions resume workers walks levels moves) = serve instance.now sessions.now (option_map (λ ledger. ledger.now) resume) workers walks levels moves

@@ -17,6 +17,7 @@ use Rattle.ct_legal.specs.Cases.{Case, plain_case}
 use Rattle.ct_form.specs.Forms.{Form}
 use Rattle.ct_form.specs.EqualityForms.{IsForm, plain_form}
 use Rattle.ct_form_report.specs.FormCases.{form_case}
+use Rattle.ct_form_report.specs.Laws.{opened_case}
 use Rattle.ct_version.specs.declared.answers.Answer.{Answer}
 use Rattle.ct_version.specs.Answers.{outcome_seen}
 use Rattle.ct_legal.specs.Legal.{IsLegalServed, IsLegalAnswered}
@@ -31,7 +32,8 @@ use Rattle.ct_run.specs.declared.status.Status.TheVariants.{BadLedger}
 use Rattle.ct_run.specs.Words.{command_of}
 use Rattle.ct_run.specs.Forms.{form_file, session_file}
 use Rattle.ct_run.specs.Checked.{IsVerdictEnding, IsChecked}
-use Rattle.ct_run.specs.Outcome.{full, IsReportOf, IsServedReportOf}
+use Rattle.ct_run.specs.Resumption.{IsResumption}
+use Rattle.ct_run.specs.Outcome.{full, resumed, IsReportOf, IsServedReportOf, IsEnding}
 use Rattle.ct_run.specs.Plan.{ledger_or_full}
 
 -- the file of a ledger is checked by the verdict on that ledger
@@ -44,6 +46,12 @@ LedgerIsWeighed =
 abbrev pub BadIsNoLedger : Type 0
 BadIsNoLedger =
     (i : Problem) (bytes text : List ℕ) → IsChecked i bytes BadLedger text → (LEDGER_FILE_LIMIT < length bytes) ⊎ (IsLedgerText bytes → ⊥)
+
+-- and `serve` ends by the ledger with which it begins
+abbrev pub LedgerIsResumed : Type 0
+LedgerIsResumed =
+    (c : Case) (script : Script) (bytes : List ℕ) (status : Status) (text : List ℕ) → IsEnding (resumed c script bytes) status text →
+    length bytes ≤ LEDGER_FILE_LIMIT → (l : LedgerParts) → IsLedger l → bytes ≡ ledger_text l → IsResumption c script l status text
 
 -- the outcome of a grade is full at f exactly where f is the full grade and at most that grade
 abbrev pub FullIsFullGrade : Type 0
@@ -67,13 +75,18 @@ CutSessionTextHasFault =
 
 -- ---- serving
 
--- for a script without asks and the same options a report that is served and one that is answered have the same bytes
+-- for a script without asks and the same options a report that is served, from whatever grade on, and one that is answered have the
+-- same bytes
 abbrev pub ServedAsAnswered : Type 0
-ServedAsAnswered = (c : Case) (script : Script) → HasNoAsks script → (text other : List ℕ) → IsServedReportOf c script text → IsReportOf c script other → text ≡ other
+ServedAsAnswered =
+    (c : Case) (opened : ℕ) (script : Script) → HasNoAsks script → (text other : List ℕ) →
+    IsServedReportOf (opened_case c opened) script text → IsReportOf c script other → text ≡ other
 
--- and so do two that are served, by whatever workers
+-- and so do two that are served, by whatever workers and from whatever grades on
 abbrev pub ServedOneWay : Type 0
-ServedOneWay = (c : Case) (script : Script) → HasNoAsks script → (text other : List ℕ) → IsServedReportOf c script text → IsServedReportOf c script other → text ≡ other
+ServedOneWay =
+    (c : Case) (opened others : ℕ) (script : Script) → HasNoAsks script → (text other : List ℕ) →
+    IsServedReportOf (opened_case c opened) script text → IsServedReportOf (opened_case c others) script other → text ≡ other
 
 -- ---- forms
 

@@ -3,6 +3,7 @@ pub mod Words
 pub mod Commands
 pub mod Status
 pub mod Checked
+pub mod Resumption
 pub mod Certificate
 pub mod Summarised
 pub mod Outcome

@@ -17,7 +17,8 @@ use Rattle.ct_best_report.specs.BestReport.{IsBestReport}
 use Rattle.ct_best_report.specs.BestText.{best_text}
 use Rattle.ct_run.specs.Texts.{newline}
 use Rattle.ct_run.specs.Certificate.{IsCertificate}
-use Rattle.ct_run.specs.Checked.{IsChecked}
+use Rattle.ct_run.specs.Checked.{IsLedgerEnding, IsChecked}
+use Rattle.ct_run.specs.Resumption.{IsResumption}
 use Rattle.ct_run.specs.Summarised.{IsSummaryOf}
 
 -- what a run comes to before it writes
@@ -33,6 +34,7 @@ pub data RunOutcome : Type 0 where
   checked : Problem → List ℕ → RunOutcome
   made : ℕ → RunOutcome
   served : Case → Script → RunOutcome
+  resumed : Case → Script → List ℕ → RunOutcome
 
 -- a text of a report that is legal where each ask is taken as a solve
 abbrev pub IsReportOf : Case → Script → List ℕ → Type 0
@@ -59,6 +61,7 @@ IsEnding (full grade) status text = (status ≡ Full) × (text ≡ codes "full "
 IsEnding (checked i bytes) status text = IsChecked i bytes status text
 IsEnding (made number) status text = (status ≡ Done) × IsSummaryOf number text
 IsEnding (served c script) status text = (status ≡ Done) × IsServedReportOf c script text
+IsEnding (resumed c script bytes) status text = IsLedgerEnding bytes status text (λ l. IsResumption c script l status text)
 
 abbrev pub HasStatus : RunOutcome → Status → Type 0
 HasStatus outcome status = (text : List ℕ) × IsEnding outcome status text

@@ -13,7 +13,7 @@ use Rattle.ct_form_report.specs.FormCases.{form_case}
 use Rattle.ct_best_report.specs.BestReport.{rights_in}
 use Rattle.ct_answer.specs.declared.options.Options.{Options}
 use Rattle.ct_run.specs.Words.{Work, answer, best, certify, check, Command, on, make, serve, command_of}
-use Rattle.ct_run.specs.Outcome.{RunOutcome, usage, bad_instance, bad_sessions, answered, listed, too_many, certified, full, checked, made, served}
+use Rattle.ct_run.specs.Outcome.{RunOutcome, usage, bad_instance, bad_sessions, answered, listed, too_many, certified, full, checked, made, served, resumed}
 
 -- it ends with an outcome, or asks for the file of a name and goes on with its bytes
 pub data Plan : Type 0 where
@@ -41,9 +41,13 @@ case_of o f = form_case f o.limit o.walks o.levels 0
 abbrev pub sessions_plan : List ℕ → Options → Form → Plan
 sessions_plan sessions o f = script_plan sessions f.rows (λ script. ends (answered (case_of o f) script))
 
--- answers them by sessions and workers
-abbrev pub serve_plan : List ℕ → Options → Form → Plan
-serve_plan sessions o f = script_plan sessions f.rows (λ script. ends (served (case_of o f) script))
+-- answers them by sessions and workers, with the moves of a ledger to begin with where one is named
+abbrev pub served_plan : Option (List ℕ) → Case → Script → Plan
+served_plan None c script = ends (served c script)
+served_plan (Some ledger) c script = asks ledger (λ bytes. ends (resumed c script bytes))
+
+abbrev pub serve_plan : List ℕ → Option (List ℕ) → Options → Form → Plan
+serve_plan sessions resume o f = script_plan sessions f.rows (served_plan resume (case_of o f))
 
 -- the least solutions of each request, where as many requests times the count are at most 10,000
 abbrev pub listed_or_too_many : Case → ℕ → ℕ → Script → RunOutcome
@@ -79,8 +83,8 @@ instance_plan name go = reads name form_file bad_instance go
 abbrev pub command_plan : Command → Plan
 command_plan (on instance work) = instance_plan instance (work_plan work)
 command_plan (make number) = ends (made number)
-command_plan (serve instance sessions workers walks levels moves) =
-    instance_plan instance (serve_plan sessions (record { limit = moves; walks = walks; levels = levels }))
+command_plan (serve instance sessions resume workers walks levels moves) =
+    instance_plan instance (serve_plan sessions resume (record { limit = moves; walks = walks; levels = levels }))
 
 abbrev pub plan_of : Option Command → Plan
 plan_of None = ends usage
@@ -97,14 +101,14 @@ abbrev pub batch_of : Option Command → Option Command
 batch_of None = None
 batch_of (Some (on instance work)) = Some (on instance work)
 batch_of (Some (make number)) = Some (make number)
-batch_of (Some (serve instance sessions workers walks levels moves)) = None
+batch_of (Some (serve instance sessions resume workers walks levels moves)) = None
 
 -- the commands of one thread: of those, all that aren't told to take several
 abbrev pub plain_of : Option Command → Option Command
 plain_of None = None
 plain_of (Some (on instance work)) = cond (is_batch work) None (Some (on instance work))
 plain_of (Some (make number)) = Some (make number)
-plain_of (Some (serve instance sessions workers walks levels moves)) = None
+plain_of (Some (serve instance sessions resume workers walks levels moves)) = None
 
 -- the plan of the words after the program's name
 abbrev pub plan_in : List (String Global) → Plan

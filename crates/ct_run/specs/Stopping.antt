@@ -10,6 +10,7 @@ use Rattle.ct_run.specs.declared.stop.Stop.{Stop}
 use Rattle.ct_run.specs.declared.stop.Stop.TheVariants.{Refused, ReadFault, Memory}
 use Rattle.ct_run.specs.declared.ending.Ending.{Ending}
 use Rattle.ct_run.specs.Outcome.{RunOutcome, IsEnding}
+use Rattle.ct_run.specs.Checked.{IsBadLedger}
 use Rattle.ct_run.specs.Plan.{Plan}
 use Rattle.ct_run.specs.Running.{Runs}
 
@@ -22,6 +23,12 @@ abbrev pub StoppedAt : Stop → ℕ → ℕ → Type 0
 StoppedAt (Refused ending) before now = ⊥
 StoppedAt ReadFault before now = Rose before now
 StoppedAt Memory before now = ⊤
+
+-- no ledger is read from bad bytes, and the ending says so
+abbrev pub IsLedgerStop : List ℕ → Stop → Type 0
+IsLedgerStop bytes (Refused ending) = IsBadLedger bytes ending.status ending.text
+IsLedgerStop bytes ReadFault = ⊥
+IsLedgerStop bytes Memory = ⊤
 
 -- at an outcome: the ending fits it, or memory ran out
 abbrev pub EndedBy : Result Ending Stop → RunOutcome → Type 0

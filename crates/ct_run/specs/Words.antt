@@ -3,8 +3,8 @@ use Rattle.std.specs.Prelude.{ℕ, ◌≤◌, ◌≡◌, Bool, List, [], ◌∷�
 use Rattle.std.specs.List.{AllByRecursion}
 use Rattle.ct_vectors.specs.declared.limits.TheConstants.{GRADE_LIMIT, MOVE_LIMIT, WORKER_LIMIT}
 use Rattle.ct_words.specs.Table.{commands}
-use Rattle.ct_words.specs.Role.{WordGiven, ◌>>=◌}
-use Rattle.ct_words.specs.Parts.{has_name, value_of}
+use Rattle.ct_words.specs.Role.{WordGiven, number_given, ◌>>=◌}
+use Rattle.ct_words.specs.Parts.{has_name, text_of, value_of}
 use Rattle.ct_words.specs.Said.{WordPlace, text, number, WordsSaid, said_of}
 use Rattle.ct_words.specs.declared.table.CommandName.{CommandName}
 use Rattle.ct_words.specs.declared.table.CommandName.TheVariants.{Answer, Best, Certify, Check, Make, Serve}
@@ -21,7 +21,7 @@ pub data Work : Type 0 where
 pub data Command : Type 0 where
   on : (instance : List ℕ) → Work → Command
   make : ℕ → Command
-  serve : (instance sessions : List ℕ) (workers : ℕ) (walks levels : Bool) (moves : ℕ) → Command
+  serve : (instance sessions : List ℕ) (resume : Option (List ℕ)) (workers : ℕ) (walks levels : Bool) (moves : ℕ) → Command
 
 -- the limit that --moves gives, and the greatest where it isn't given
 abbrev pub limit_in : List WordGiven → ℕ
@@ -54,7 +54,7 @@ as_command Best places given = option_map (λ words. on words.0 (best words.1 wo
 as_command Certify places given = option_map (λ words. on words.0 (certify words.1 (limit_in given))) (text_and_number places)
 as_command Check places given = option_map (λ names. on names.0 (check names.1 (has_name (codes "batch") given))) (two_texts places)
 as_command Make places given = option_map make (one_number places)
-as_command Serve places given = option_map (λ names. serve names.0 names.1 (workers_in given) (has_name (codes "walks") given) (has_name (codes "levels") given) (limit_in given)) (two_texts places)
+as_command Serve places given = option_map (λ names. serve names.0 names.1 (text_of (codes "resume") given) (workers_in given) (has_name (codes "walks") given) (has_name (codes "levels") given) (limit_in given)) (two_texts places)
 
 -- the command that the words after the program's name are, if they are one
 abbrev pub command_of : List (List ℕ) → Option Command
@@ -79,14 +79,14 @@ abbrev pub IsPlaceWithin : CommandName → WordPlace → Type 0
 IsPlaceWithin command (text word) = Unit {0}
 IsPlaceWithin command (number n) = IsNumberOf command n
 
--- what the value of the option of this name is
+-- what a number is that the option of this name was given
 abbrev pub IsValueOf : List ℕ → ℕ → Type 0
 IsValueOf name n = (name ≡ codes "moves" → IsLimit n) × (name ≡ codes "workers" → n ≤ WORKER_LIMIT)
 
--- the numbers in places are what the command wants there, and the values are what their options want
+-- the numbers in places are what the command wants there, and the numbers of options are what these want
 pub record HasNumbersWithin (said : WordsSaid) : Type 0 where
   pub places : AllByRecursion (IsPlaceWithin said.command) said.places
-  pub given : AllByRecursion (λ one. (n : ℕ) → one.value ≡ Some n → IsValueOf one.name n) said.given
+  pub given : AllByRecursion (λ one. (n : ℕ) → number_given one.value ≡ Some n → IsValueOf one.name n) said.given
 
 -- the same of a command
 abbrev pub IsWorkWithin : Work → Type 0
@@ -98,4 +98,4 @@ IsWorkWithin (check ledger batch) = Unit {0}
 abbrev pub IsCommandWithin : Command → Type 0
 IsCommandWithin (on instance work) = IsWorkWithin work
 IsCommandWithin (make n) = Unit {0}
-IsCommandWithin (serve instance sessions workers walks levels moves) = (workers ≤ WORKER_LIMIT) × IsLimit moves
+IsCommandWithin (serve instance sessions resume workers walks levels moves) = (workers ≤ WORKER_LIMIT) × IsLimit moves

@@ -10,6 +10,7 @@ ghost use Rattle.ct_run.specs.Following.{Follows};
 
 use crate::ending::Ending;
 use crate::plain::{batch_ending, plain_ending};
+use crate::service::Service;
 use crate::serving::serve_ending;
 use crate::status::Status;
 use crate::stop::Stop;
@@ -73,6 +74,7 @@ fn command_ending<R: Threads + Wait + Sync, S: Shelf, G: Gate + Sync>(
             Command::Serve {
                 instance,
                 sessions,
+                resume,
                 workers,
                 walks,
                 levels,
@@ -84,7 +86,14 @@ fn command_ending<R: Threads + Wait + Sync, S: Shelf, G: Gate + Sync>(
                 walks,
                 levels,
             };
-            serve_ending(rt, alloc, instance, sessions, workers, options, shelf, gate)
+            let service = Service {
+                rt,
+                alloc,
+                gate,
+                workers,
+                options,
+            };
+            serve_ending(&service, instance, sessions, resume, shelf)
         }
         Some(Command::On { .. } | Command::Make { .. }) | None => {
             batch_ending(rt, alloc, command, shelf)
@@ -162,7 +171,8 @@ pub fn run_batch<R: Threads + Sync, S: Shelf, O: Sink>(
 /// Runs the command that the words after the program's name are, each command but `serve` as [`run_batch`] does.
 /// `serve INSTANCE SESSIONS` answers the session file by sessions, while workers complete the test set up to the target of
 /// their phase, all of them in threads of their own; `--workers N` says how many workers, 0 to 16, and 4 is what holds
-/// without it. An ask that no version covers yet is told so. `--walks`, `--levels` and `--moves N` are as for `answer`.
+/// without it. An ask that no version covers yet is told so. With `--resume LEDGER` the ledger of that file is checked first,
+/// and where its moves are the test set of its grade they are what all sessions begin with. `--walks`, `--levels` and `--moves N` are as for `answer`.
 ///
 /// It may wait where it serves. Memory and time are those of [`run_plain`]; the parts of a phase run beside each other, or one
 /// after another where no thread can be made. At the gate the workers have the numbers from 1 on, and the sessions of a phase

@@ -4,11 +4,14 @@ ghost use Rattle.ct_vectors.specs.declared.limits.TheConstants.{WORKER_LIMIT};
 ghost use Rattle.ct_run.specs.Words.{IsLimit};
 ghost use Rattle.ct_run.specs.Outcome.{usage, bad_instance, bad_sessions, answered, served, full};
 ghost use Rattle.ct_run.specs.Plan.{case_of};
+ghost use Rattle.ct_run.specs.Resumption.{not_reduced_text};
 ghost use Rattle.ct_run.specs.Checked.{reason_text, accepted_text, refused_text, too_long_text, bad_line_text};
 ghost use Rattle.ct_run.specs.Stopping.{Fits};
+ghost use Rattle.ct_run.specs.Telling.{HasToldText};
 ghost use Rattle.ct_input.specs.Script.{IsScript};
 
 use crate::crew::Crew;
+use crate::service::Service;
 use crate::status::Status;
 use crate::telling::{told_of, wide_script};
 use ct_answer::Options;
@@ -16,6 +19,7 @@ use ct_checker::Reason;
 use ct_form::Form;
 use ct_input::{Fault, Script, push_fault};
 use ct_point::Seq;
+use ct_report::Report;
 use ct_serve::serve_report;
 use ct_text::push_natural;
 use ct_version::Gate;
@@ -63,6 +67,17 @@ pub fn bad_sessions_ending(alloc: Global, fault: &Fault) -> Result<Ending, Alloc
     })
 }
 
+/// The ending with what is told of a report of the equality form.
+pub fn told_ending(alloc: Global, form: &Form, report: Report) -> Result<Ending, AllocError>
+    ensures { IfOk result (λ ending. (ending.status ≡ Status.Done) × HasToldText form.now report ending.text) }
+{
+    let told = told_of(alloc, form, report)?;
+    Ok(Ending {
+        status: Status::Done,
+        text: Seq::from_vec(told.print(alloc)?),
+    })
+}
+
 /// The ending of `answer`.
 pub fn report_ending<C: Crew>(
     crew: &C,
@@ -78,35 +93,31 @@ pub fn report_ending<C: Crew>(
 {
     let wide = wide_script(alloc, form, script)?;
     let report = crew.answer(alloc, Arc::try_clone(form.equal())?, &wide, options)?;
-    let told = told_of(alloc, form, report)?;
-    Ok(Ending {
-        status: Status::Done,
-        text: Seq::from_vec(told.print(alloc)?),
-    })
+    told_ending(alloc, form, report)
 }
 
-/// The ending of `serve` with so many workers.
+/// The ending of `serve`.
 pub fn served_ending<R: Threads + Wait + Sync, G: Gate + Sync>(
-    rt: &R,
-    alloc: Global,
+    service: &Service<'_, R, G>,
     form: &Form,
     script: Script,
-    workers: u32,
-    options: Options,
-    gate: &G,
 ) -> Result<Ending, AllocError>
-    requires workers { workers ≤ WORKER_LIMIT }
-    requires limit { IsLimit options.limit }
+    requires workers { service.now.workers ≤ WORKER_LIMIT }
+    requires limit { IsLimit service.now.options.limit }
     requires script { IsScript form.now.rows script }
-    ensures { IfOk result (λ ending. Fits (served (case_of options form.now) script) ending) }
+    ensures { IfOk result (λ ending. Fits (served (case_of service.now.options form.now) script) ending) }
 {
-    let wide = wide_script(alloc, form, script)?;
-    let report = serve_report(rt, alloc, form.equal(), &wide, workers, options, gate)?;
-    let told = told_of(alloc, form, report)?;
-    Ok(Ending {
-        status: Status::Done,
-        text: Seq::from_vec(told.print(alloc)?),
-    })
+    let wide = wide_script(service.alloc, form, script)?;
+    let report = serve_report(
+        service.rt,
+        service.alloc,
+        form.equal(),
+        &wide,
+        service.workers,
+        service.options,
+        service.gate,
+    )?;
+    told_ending(service.alloc, form, report)
 }
 
 /// The ending where the full grade, this one, is at most the grade that was asked for.
@@ -171,6 +182,20 @@ pub fn refused_ending(alloc: Global, line: u64, reason: Reason) -> Result<Ending
     text.extend_from_slice(b"\n")?;
     Ok(Ending {
         status: Status::LedgerRefused,
+        text: Seq::from_vec(text),
+    })
+}
+
+/// The ending where an accepted ledger isn't reduced first at the move with this number.
+pub fn not_reduced_ending(alloc: Global, number: u32) -> Result<Ending, AllocError>
+    ensures status { IfOk result (λ ending. ending.status ≡ Status.NotReduced) }
+    ensures text { IfOk result (λ ending. ending.text ≡ not_reduced_text number) }
+{
+    let mut text = Vec::from_slice(alloc, b"not reduced: move ")?;
+    push_natural(&mut text, number as u64)?;
+    text.extend_from_slice(b"\n")?;
+    Ok(Ending {
+        status: Status::NotReduced,
         text: Seq::from_vec(text),
     })
 }

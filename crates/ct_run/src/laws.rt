@@ -1,12 +1,13 @@
 //! Laws of what a run comes to, as contracts of functions that do nothing.
 
-ghost use Rattle.ct_run.specs.Laws.{LedgerIsWeighed, BadIsNoLedger, FullIsFullGrade, NoCommandByTable, ServedAsAnswered, ServedOneWay, PlainCanBeTold, FormCanBeTold, ServedIsRead, AnsweredIsRead, PlainFormRunsAsInstance, CutInstanceTextHasFault, CutSessionTextHasFault};
+ghost use Rattle.ct_run.specs.Laws.{LedgerIsWeighed, BadIsNoLedger, LedgerIsResumed, FullIsFullGrade, NoCommandByTable, ServedAsAnswered, ServedOneWay, PlainCanBeTold, FormCanBeTold, ServedIsRead, AnsweredIsRead, PlainFormRunsAsInstance, CutInstanceTextHasFault, CutSessionTextHasFault};
 
 /// Where a file within its limit is the text of a ledger, its check ends by the verdict on that ledger, and where it ends
-/// as a bad ledger the file is over its limit or the text of none.
+/// as a bad ledger the file is over its limit or the text of none; and so `serve` ends by the ledger that it begins with.
 pub fn checks_are_exact()
     ensures ledger { LedgerIsWeighed }
     ensures none { BadIsNoLedger }
+    ensures resumed { LedgerIsResumed }
 {}
 
 /// A certificate is refused as full exactly where the full grade is at most the grade that was asked for.
@@ -20,7 +21,7 @@ pub fn words_are_exact()
 {}
 
 /// For a script without asks, `serve` and `answer` with the same options write the same bytes, and so do any two runs of
-/// `serve`.
+/// `serve`, with whatever ledgers they begin.
 pub fn serving_solves_is_answering()
     ensures answered { ServedAsAnswered }
     ensures served { ServedOneWay }

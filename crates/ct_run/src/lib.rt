@@ -17,6 +17,8 @@ mod listing;
 mod making;
 mod plain;
 mod reading;
+mod resuming;
+mod service;
 mod serving;
 mod sharing;
 mod status;

@@ -77,8 +77,7 @@ fn ledger_ending<C: Crew, S: Shelf>(
     ensures later { (name : List ℕ) → S.faults shelf.old name ≤ S.faults shelf.new name }
 {
     let bytes = file_at(alloc, ledger, LEDGER_FILE_LIMIT as u64, shelf)?;
-    let ending = check_ending(crew, alloc, form.equal(), &bytes)?;
-    Ok(ending)
+    check_ending(crew, alloc, form.equal(), bytes)
 }
 
 // The ending of the work on a form.

@@ -25,6 +25,8 @@ pub enum Status {
     LedgerRefused,
     /// The test list of some grade up to the one that was asked for has more moves than the limit.
     Full,
+    /// The ledger is accepted, but its moves are no test list: they aren't reduced.
+    NotReduced,
     /// More least solutions may be asked for than are told at once: the number of requests times the count is above 10,000.
     TooMany,
 }
@@ -47,6 +49,7 @@ impl Status {
             Status::BadLedger => 8,
             Status::LedgerRefused => 9,
             Status::Full => 10,
+            Status::NotReduced => 11,
             Status::TooMany => 12,
         }
     }

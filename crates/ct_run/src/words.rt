@@ -67,10 +67,12 @@ pub enum Command<'a> {
     Make {
         number: u64,
     },
-    /// Answers the requests of a session file by sessions and workers that share a book.
+    /// Answers the requests of a session file by sessions and workers that share a book. Where `resume` names a ledger,
+    /// the book opens at what that ledger shows.
     Serve {
         instance: &'a str,
         sessions: &'a str,
+        resume: Option<&'a str>,
         workers: u32,
         walks: bool,
         levels: bool,
@@ -196,6 +198,7 @@ fn command_said<'a>(said: &Said<'a>) -> Option<Command<'a>>
             Some(Command::Serve {
                 instance,
                 sessions,
+                resume: said.text("resume"),
                 workers: workers_of(said),
                 walks: said.has("walks"),
                 levels: said.has("levels"),

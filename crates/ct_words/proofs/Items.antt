@@ -2,11 +2,12 @@
 use Rattle.std.proofs.Common.{◌≡◌, ℕ, ◌==◌, Bool, true, false, not, cond, ◌||◌, List, [], ◌∷◌, map, take, drop, length, option_map, Option, Some, None, refl, ap, sym, ◌∙◌, arith, true≢false, ne_eqb, codes}
 use Rattle.std.specs.Str.{bytes_eq}
 use Rattle.std.proofs.lemmas.Slice.Eq.{bytes_eq-Decides}
-use Rattle.ct_words.specs.Table.{WordOption}
-use Rattle.ct_words.specs.Role.{WordAsked, WordRole, ends, positional, says, opens, number_in, number_said, name_len, said_with, option_of, plain_of, dashed_of, role_of, ◌>>=◌}
+use Rattle.ct_words.specs.Table.{WordOption, takes_value}
+use Rattle.ct_words.specs.Role.{WordAsked, WordRole, ends, positional, says, opens, WordValue, bare, value_in, value_said, name_len, said_with, option_of, plain_of, dashed_of, role_of, ◌>>=◌}
 use Rattle.ct_words.specs.Parts.{WordParts, with_place, with_given, joined, parts_of}
 use Rattle.ct_words.specs.Items.{WordItem, place, flagged, valued, WordLook, bad, ends_options, plain_word, flag_word, option_word, value_word, look_with, look_row, row_by, look_dashed, look_at, item_joined, items_of, given_with, given_by, with_one, parts_with}
-use Rattle.ct_words.specs.declared.table.Bounds.{Bounds}
+use Rattle.ct_words.specs.declared.table.Takes.{Takes}
+use Rattle.ct_words.specs.declared.table.Takes.TheVariants.{Nothing, Number, Name}
 use Rattle.ct_words.proofs.Loops.{parts-word}
 
 -- the first row of a name has it, and is found by its own name
@@ -28,39 +29,41 @@ abbrev pub RoleBy : List WordOption → Option WordAsked → List ℕ → WordLo
 RoleBy options None word bad role = role ≡ None
 RoleBy options None word ends_options role = role ≡ Some ends
 RoleBy options None word plain_word role = role ≡ Some positional
-RoleBy options None word (flag_word name) role = (row_by options name ≡ Some (record { name = name; bounds = None })) × (role ≡ Some (says (record { name = name; value = None })))
+RoleBy options None word (flag_word name) role = (row_by options name ≡ Some (record { name = name; takes = Nothing })) × (role ≡ Some (says (record { name = name; value = bare })))
 RoleBy options None word (option_word name) role =
-    (bounds : Bounds) × (row_by options name ≡ Some (record { name = name; bounds = Some bounds })) × (role ≡ Some (opens (record { name = name; bounds = bounds })))
+    (takes : Takes) × (row_by options name ≡ Some (record { name = name; takes = takes })) × (role ≡ Some (opens (record { name = name; takes = takes })))
 RoleBy options None word (value_word name text) role =
-    (bounds : Bounds) × (row_by options name ≡ Some (record { name = name; bounds = Some bounds })) × (role ≡ number_said (record { name = name; bounds = bounds }) text)
-RoleBy options (Some asked) word plain_word role = role ≡ number_said asked word
+    (takes : Takes) × (row_by options name ≡ Some (record { name = name; takes = takes })) × (role ≡ value_said (record { name = name; takes = takes }) text)
+RoleBy options (Some asked) word plain_word role = role ≡ value_said asked word
 RoleBy options (Some asked) word look role = role ≡ None
 
 row_role : (options : List WordOption) (word : List ℕ) (row : WordOption) (from_sign : List ℕ) → row_by options row.name ≡ Some row
-    → RoleBy options None word (look_with row.name row.bounds from_sign) (said_with row.name row.bounds from_sign)
-row_role options word row from_sign e = go row.bounds from_sign e
+    → RoleBy options None word (look_with row.name (takes_value row.takes) from_sign) (said_with row.name row.takes from_sign)
+row_role options word row from_sign e = go row.takes from_sign e
   where
-    go : (bounds : Option Bounds) (from_sign : List ℕ) → row_by options row.name ≡ Some (record { name = row.name; bounds = bounds })
-        → RoleBy options None word (look_with row.name bounds from_sign) (said_with row.name bounds from_sign)
-    go None [] e = (e, refl)
-    go None (sign ∷ text) e = refl
-    go (Some bounds) [] e = (bounds, e, refl)
-    go (Some bounds) (sign ∷ text) e = (bounds, e, refl)
+    go : (takes : Takes) (from_sign : List ℕ) → row_by options row.name ≡ Some (record { name = row.name; takes = takes })
+        → RoleBy options None word (look_with row.name (takes_value takes) from_sign) (said_with row.name takes from_sign)
+    go Nothing [] e = (e, refl)
+    go Nothing (sign ∷ text) e = refl
+    go (Number bounds) [] e = (Number bounds, e, refl)
+    go (Number bounds) (sign ∷ text) e = (Number bounds, e, refl)
+    go Name [] e = (Name, e, refl)
+    go Name (sign ∷ text) e = (Name, e, refl)
 
 option_role : (options : List WordOption) (word name from_sign : List ℕ) (found : Option WordOption) → row_by options name ≡ found
-    → RoleBy options None word (look_row found from_sign) (found >>= λ row. said_with row.name row.bounds from_sign)
+    → RoleBy options None word (look_row found from_sign) (found >>= λ row. said_with row.name row.takes from_sign)
 option_role options word name from_sign None e = refl
 option_role options word name from_sign (Some row) e = row_role options word row from_sign (found_again options name row e)
 
 waits_not : (options : List WordOption) (asked : WordAsked) (word from_sign : List ℕ) (found : Option WordOption) → RoleBy options (Some asked) word (look_row found from_sign) None
 waits_not options asked word from_sign None = refl
-waits_not options asked word from_sign (Some row) = go row.bounds from_sign
+waits_not options asked word from_sign (Some row) = go (takes_value row.takes) from_sign
   where
-    go : (bounds : Option Bounds) (from_sign : List ℕ) → RoleBy options (Some asked) word (look_with row.name bounds from_sign) None
-    go None [] = refl
-    go None (sign ∷ text) = refl
-    go (Some bounds) [] = refl
-    go (Some bounds) (sign ∷ text) = refl
+    go : (takes : Bool) (from_sign : List ℕ) → RoleBy options (Some asked) word (look_with row.name takes from_sign) None
+    go false [] = refl
+    go false (sign ∷ text) = refl
+    go true [] = refl
+    go true (sign ∷ text) = refl
 
 not_empty : (byte : ℕ) (named : List ℕ) → (length (byte ∷ named) == 0) ≡ false
 not_empty byte named = ne_eqb _ _ (λ none. absurd (omega (arith, none)))
@@ -115,7 +118,7 @@ role_look options waiting (first ∷ second ∷ named) = go (first == 45)
 -- the option that waits is one of the command's
 abbrev pub IsKnown : List WordOption → Option WordAsked → Type 0
 IsKnown options None = Unit {0}
-IsKnown options (Some asked) = row_by options asked.name ≡ Some (record { name = asked.name; bounds = Some asked.bounds })
+IsKnown options (Some asked) = row_by options asked.name ≡ Some (record { name = asked.name; takes = asked.takes })
 
 abbrev pub name_asked : Option WordAsked → Option (List ℕ)
 name_asked = option_map (λ asked. asked.name)
@@ -137,30 +140,30 @@ unfolding parts_with
 one_place options word None = refl
 one_place options word (Some items) = refl
 
-one_flag : (options : List WordOption) (name : List ℕ) (items : Option (List WordItem)) → row_by options name ≡ Some (record { name = name; bounds = None })
-    → option_map (with_given (record { name = name; value = None })) (items >>= parts_with options) ≡ (option_map (λ list. flagged name ∷ list) items >>= parts_with options)
+one_flag : (options : List WordOption) (name : List ℕ) (items : Option (List WordItem)) → row_by options name ≡ Some (record { name = name; takes = Nothing })
+    → option_map (with_given (record { name = name; value = bare })) (items >>= parts_with options) ≡ (option_map (λ list. flagged name ∷ list) items >>= parts_with options)
 unfolding parts_with
 one_flag options name None known = refl
 one_flag options name (Some items) known =
-    ap (λ (found : Option WordOption). with_one (found >>= λ row. given_with row.name row.bounds (Some (codes "true"))) (parts_with options items)) (sym known)
+    ap (λ (found : Option WordOption). with_one (found >>= λ row. given_with row.name row.takes (Some (codes "true"))) (parts_with options items)) (sym known)
 
-one_value : (options : List WordOption) (name text word : List ℕ) (words : List (List ℕ)) (bounds : Bounds) (parts : Option WordAsked → Option WordParts) (items : Option (List WordItem))
-    → row_by options name ≡ Some (record { name = name; bounds = Some bounds }) → parts None ≡ (items >>= parts_with options)
-    → (number_said (record { name = name; bounds = bounds }) text >>= joined word words parts) ≡ (option_map (λ list. valued name text ∷ list) items >>= parts_with options)
+one_value : (options : List WordOption) (name text word : List ℕ) (words : List (List ℕ)) (takes : Takes) (parts : Option WordAsked → Option WordParts) (items : Option (List WordItem))
+    → row_by options name ≡ Some (record { name = name; takes = takes }) → parts None ≡ (items >>= parts_with options)
+    → (value_said (record { name = name; takes = takes }) text >>= joined word words parts) ≡ (option_map (λ list. valued name text ∷ list) items >>= parts_with options)
 unfolding parts_with
-one_value options name text word words bounds parts items known same = go (number_in bounds text) refl items same
+one_value options name text word words takes parts items known same = go (value_in takes text) refl items same
   where
-    given_is : given_by options name (Some text) ≡ (number_in bounds text >>= λ n. Some (record { name = name; value = Some n }))
-    given_is = ap (λ (found : Option WordOption). found >>= λ row. given_with row.name row.bounds (Some text)) known
+    given_is : given_by options name (Some text) ≡ (value_in takes text >>= λ value. Some (record { name = name; value = value }))
+    given_is = ap (λ (found : Option WordOption). found >>= λ row. given_with row.name row.takes (Some text)) known
 
-    go : (n : Option ℕ) → number_in bounds text ≡ n → (items : Option (List WordItem)) → parts None ≡ (items >>= parts_with options)
-        → ((n >>= λ k. Some (says (record { name = name; value = Some k }))) >>= joined word words parts) ≡ (option_map (λ list. valued name text ∷ list) items >>= parts_with options)
+    go : (n : Option WordValue) → value_in takes text ≡ n → (items : Option (List WordItem)) → parts None ≡ (items >>= parts_with options)
+        → ((n >>= λ k. Some (says (record { name = name; value = k }))) >>= joined word words parts) ≡ (option_map (λ list. valued name text ∷ list) items >>= parts_with options)
     go None is None same = refl
-    go None is (Some items) same = sym (ap (λ o. with_one o (parts_with options items)) (given_is ∙ ap (λ o. o >>= λ k. Some (record { name = name; value = Some k })) is))
-    go (Some n) is None same = ap (option_map (with_given (record { name = name; value = Some n }))) same
+    go None is (Some items) same = sym (ap (λ o. with_one o (parts_with options items)) (given_is ∙ ap (λ o. o >>= λ k. Some (record { name = name; value = k })) is))
+    go (Some n) is None same = ap (option_map (with_given (record { name = name; value = n }))) same
     go (Some n) is (Some items) same =
-        ap (option_map (with_given (record { name = name; value = Some n }))) same
-        ∙ sym (ap (λ o. with_one o (parts_with options items)) (given_is ∙ ap (λ o. o >>= λ k. Some (record { name = name; value = Some k })) is))
+        ap (option_map (with_given (record { name = name; value = n }))) same
+        ∙ sym (ap (λ o. with_one o (parts_with options items)) (given_is ∙ ap (λ o. o >>= λ k. Some (record { name = name; value = k })) is))
 
 -- what a word adds to the parts, where those of the words after it are those of their items
 word_parts : (options : List WordOption) (waiting : Option WordAsked) (word : List ℕ) (words : List (List ℕ)) (look : WordLook) (role : Option WordRole)
@@ -172,13 +175,13 @@ word_parts options None word words ends_options role parts items known same is =
 word_parts options None word words plain_word role parts items known same is =
     ap (λ r. r >>= joined word words parts) is ∙ ap (option_map (with_place word)) (same None tt) ∙ one_place options word (items None)
 word_parts options None word words (flag_word name) role parts items known same is =
-    ap (λ r. r >>= joined word words parts) is.1 ∙ ap (option_map (with_given (record { name = name; value = None }))) (same None tt) ∙ one_flag options name (items None) is.0
+    ap (λ r. r >>= joined word words parts) is.1 ∙ ap (option_map (with_given (record { name = name; value = bare }))) (same None tt) ∙ one_flag options name (items None) is.0
 word_parts options None word words (option_word name) role parts items known same is =
-    ap (λ r. r >>= joined word words parts) is.2 ∙ same (Some (record { name = name; bounds = is.0 })) is.1
+    ap (λ r. r >>= joined word words parts) is.2 ∙ same (Some (record { name = name; takes = is.0 })) is.1
 word_parts options None word words (value_word name text) role parts items known same is =
     ap (λ r. r >>= joined word words parts) is.2 ∙ one_value options name text word words is.0 parts (items None) is.1 (same None tt)
 word_parts options (Some asked) word words plain_word role parts items known same is =
-    ap (λ r. r >>= joined word words parts) is ∙ one_value options asked.name word word words asked.bounds parts (items None) known (same None tt)
+    ap (λ r. r >>= joined word words parts) is ∙ one_value options asked.name word word words asked.takes parts (items None) known (same None tt)
 word_parts options (Some asked) word words bad role parts items known same is = ap (λ r. r >>= joined word words parts) is
 word_parts options (Some asked) word words ends_options role parts items known same is = ap (λ r. r >>= joined word words parts) is
 word_parts options (Some asked) word words (flag_word name) role parts items known same is = ap (λ r. r >>= joined word words parts) is

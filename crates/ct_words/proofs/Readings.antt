@@ -1,5 +1,5 @@
 -- The parts that are read from the rows, and when no option was used twice.
-use Rattle.std.proofs.Common.{◌≡◌, ◌⊎◌, ℕ, Bool, true, false, not, cond, ◌&&◌, ◌||◌, List, [], ◌∷◌, ◌++◌, map, fold, option_map, option_and_then, unwrap_or, Option, Some, None, refl, ap, ap₂, sym, ◌∙◌, inl, inr, true≢false, slice_get, codes}
+use Rattle.std.proofs.Common.{◌≡◌, ◌⊎◌, Bool, true, false, not, cond, ◌&&◌, ◌||◌, List, [], ◌∷◌, ◌++◌, map, fold, option_map, option_and_then, unwrap_or, Option, Some, None, refl, ap, ap₂, sym, ◌∙◌, inl, inr, true≢false, slice_get, codes}
 use Rattle.std.specs.Str.{bytes_eq}
 use Rattle.std.specs.List.{list_any, list_all}
 use Rattle.clap.specs.Walk.{Row, Text, has_row, more_values, with_default, first_of}
@@ -9,12 +9,11 @@ use Rattle.clap.specs.declared.error.kind.ErrorKind.TheVariants as kind
 use Rattle.clap.specs.declared.parser.matches.ValueSource.{ValueSource}
 use Rattle.clap.specs.declared.parser.matches.ValueSource.TheVariants.{DefaultValue, CommandLine}
 use Rattle.ct_words.specs.Table.{WordOption}
-use Rattle.ct_words.specs.Role.{WordGiven, number_in, ◌>>=◌}
+use Rattle.ct_words.specs.Role.{WordGiven, WordValue, value_in, ◌>>=◌}
 use Rattle.ct_words.specs.Parts.{WordParts, with_place, are_distinct}
 use Rattle.ct_words.specs.Items.{WordItem, place, flagged, valued, row_by, given_with, given_by, with_one, parts_with}
 use Rattle.ct_words.specs.Command.{places_id}
 use Rattle.ct_words.specs.Reading.{is_said, is_command_line, with_head, given_in, places_in, parts_read}
-use Rattle.ct_words.specs.declared.table.Bounds.{Bounds}
 use Rattle.ct_words.proofs.Loops.{any_seen}
 use Rattle.ct_words.proofs.Items.{found_name}
 use Rattle.ct_words.proofs.Rules.{rules_built}
@@ -214,21 +213,15 @@ none_in_none (name ∷ names) = none_in_none names
 given_name : (options : List WordOption) (name text : Text) (given : WordGiven) → given_by options name (Some text) ≡ Some given → given.name ≡ name
 given_name options name text given e = go (row_by options name) refl e
   where
-    with_bounds : (own : Text) (bounds : Option Bounds) → given_with own bounds (Some text) ≡ Some given → given.name ≡ own
-    with_bounds own None e =
-        let same : record { name = own; value = None } ≡ given = cc in
+    by_value : (own : Text) (value : Option WordValue) → (value >>= λ v. Some (record { name = own; value = v })) ≡ Some given → given.name ≡ own
+    by_value own None e = cc
+    by_value own (Some v) e =
+        let same : record { name = own; value = v } ≡ given = cc in
         sym (ap (λ (g : WordGiven). g.name) same)
-    with_bounds own (Some bounds) e = by_number (number_in bounds text) e
-      where
-        by_number : (n : Option ℕ) → (n >>= λ k. Some (record { name = own; value = Some k })) ≡ Some given → given.name ≡ own
-        by_number None e = cc
-        by_number (Some k) e =
-            let same : record { name = own; value = Some k } ≡ given = cc in
-            sym (ap (λ (g : WordGiven). g.name) same)
 
-    go : (row : Option WordOption) → row_by options name ≡ row → (row >>= λ r. given_with r.name r.bounds (Some text)) ≡ Some given → given.name ≡ name
+    go : (row : Option WordOption) → row_by options name ≡ row → (row >>= λ r. given_with r.name r.takes (Some text)) ≡ Some given → given.name ≡ name
     go None is e = cc
-    go (Some row) is e = with_bounds row.name row.bounds e ∙ found_name options name row is
+    go (Some row) is e = by_value row.name (value_in row.takes text) e ∙ found_name options name row is
 
 givens_names : (options : List WordOption) (texts : List (Text × Text)) (given : List WordGiven) → givens options texts ≡ Some given
     → map (λ (g : WordGiven). g.name) given ≡ map (λ (e : Text × Text). e.0) texts

@@ -1,5 +1,5 @@
 -- The rows of the uses of the items: each option once, and the positional words in one row.
-use Rattle.std.proofs.Common.{◌≡◌, ◌⊎◌, Bool, true, false, cond, ◌&&◌, ◌||◌, List, [], ◌∷◌, ◌++◌, map, find, fold, Option, Some, None, refl, ap, sym, subst, ◌∙◌, inl, inr, true≢false, append-nil, append_assoc, slice_get, is_some, codes}
+use Rattle.std.proofs.Common.{◌≡◌, ◌⊎◌, Bool, true, false, cond, ◌&&◌, ◌||◌, List, [], ◌∷◌, ◌++◌, map, find, fold, Option, Some, None, refl, ap, sym, subst, ◌∙◌, inl, inr, true≢false, append-nil, append_assoc, slice_get, codes}
 use Rattle.std.proofs.lemmas.List.{map-append}
 use Rattle.std.specs.Str.{bytes_eq}
 use Rattle.std.specs.List.{list_any}
@@ -11,7 +11,7 @@ use Rattle.clap.specs.declared.error.kind.ErrorKind.TheVariants as kind
 use Rattle.clap.specs.Kinds.{or_else}
 use Rattle.clap.specs.declared.parser.matches.ValueSource.{ValueSource}
 use Rattle.clap.specs.declared.parser.matches.ValueSource.TheVariants.{DefaultValue, CommandLine}
-use Rattle.ct_words.specs.Table.{WordOption}
+use Rattle.ct_words.specs.Table.{WordOption, takes_value}
 use Rattle.ct_words.specs.Items.{WordItem, place, flagged, valued}
 use Rattle.ct_words.specs.Command.{places_id}
 use Rattle.ct_words.proofs.Rules.{place_built, built_by, option_built, rules_built}
@@ -351,7 +351,7 @@ options_kept : (options : List WordOption) (rows : List Row) (es : List (Text ×
     → EndsAs (fold with_default rows (map option_built options)) places (texts_of es)
 options_kept [] rows es places kept = (es, kept, refl)
 options_kept (option ∷ options) rows es places kept =
-    let one = default_kept (is_some option.bounds) option.name rows es places kept in
+    let one = default_kept (takes_value option.takes) option.name rows es places kept in
     let more = options_kept options (with_default rows (option_built option)) one.0 places one.1 in
     (more.0, more.1, more.2 ∙ one.2)
 

@@ -8,7 +8,7 @@ use Rattle.clap.specs.Simple.{App, Shape, built, filled, filled_from, is_buildab
 use Rattle.clap.specs.Kinds.{or_else, check_kinds}
 use Rattle.clap.specs.Takes.{is_given}
 use Rattle.clap.specs.Faults.{check_fault, default_fault, defaults_fault, given_default_fault, is_free_app, is_simple_and_free}
-use Rattle.ct_words.specs.Table.{WordOption}
+use Rattle.ct_words.specs.Table.{WordOption, takes_value}
 use Rattle.ct_words.specs.Role.{name_len}
 use Rattle.ct_words.specs.Items.{row_by}
 use Rattle.ct_words.specs.Command.{places_id, place_rule, rule_by, option_rule, row_app}
@@ -20,7 +20,7 @@ abbrev pub built_by : Bool → Text → Rule
 built_by takes name = filled (rule_by takes name)
 
 abbrev pub option_built : WordOption → Rule
-option_built option = built_by (is_some option.bounds) option.name
+option_built option = built_by (takes_value option.takes) option.name
 
 abbrev pub rules_built : List WordOption → List Rule
 rules_built options = place_built ∷ map option_built options
@@ -34,7 +34,7 @@ no_index false name i rest = refl
 
 filled_options : (i : ℕ) (options : List WordOption) → filled_from i (map option_rule options) ≡ map option_built options
 filled_options i [] = refl
-filled_options i (option ∷ options) = no_index (is_some option.bounds) option.name i (map option_rule options) ∙ ap (λ rest. option_built option ∷ rest) (filled_options i options)
+filled_options i (option ∷ options) = no_index (takes_value option.takes) option.name i (map option_rule options) ∙ ap (λ rest. option_built option ∷ rest) (filled_options i options)
 
 pub row_built : (name : Text) (options : List WordOption) → built (row_app name options) ≡ record { top = shape_built name options; subs = [] }
 unfolding row_app
@@ -43,14 +43,14 @@ row_built name options = ap (λ (rest : List Rule). record { top = record (shape
 -- ---- the command is simple
 
 all_options : (p : Rule → Bool) (f : Bool → Text → Rule) → ((takes : Bool) (name : Text) → p (f takes name) ≡ true) → (options : List WordOption)
-    → list_all p (map (λ option. f (is_some option.bounds) option.name) options) ≡ true
+    → list_all p (map (λ option. f (takes_value option.takes) option.name) options) ≡ true
 all_options p f each [] = refl
-all_options p f each (option ∷ options) = ap₂ (λ a b. a && b) (each (is_some option.bounds) option.name) (all_options p f each options)
+all_options p f each (option ∷ options) = ap₂ (λ a b. a && b) (each (takes_value option.takes) option.name) (all_options p f each options)
 
 no_option : (p : Rule → Bool) (f : Bool → Text → Rule) → ((takes : Bool) (name : Text) → p (f takes name) ≡ false) → (options : List WordOption)
-    → list_any p (map (λ option. f (is_some option.bounds) option.name) options) ≡ false
+    → list_any p (map (λ option. f (takes_value option.takes) option.name) options) ≡ false
 no_option p f each [] = refl
-no_option p f each (option ∷ options) = ap₂ (λ a b. a || b) (each (is_some option.bounds) option.name) (no_option p f each options)
+no_option p f each (option ∷ options) = ap₂ (λ a b. a || b) (each (takes_value option.takes) option.name) (no_option p f each options)
 
 simple_rule : (takes : Bool) (name : Text) → (rule_by takes name).is_simple ≡ true
 simple_rule true name = refl
@@ -70,7 +70,7 @@ none_early n false name = refl
 
 none_placed : (k : ℕ) (options : List WordOption) → fold (λ (n : ℕ) (a : Rule). n + cond (is_some a.index) 1 0) k (map option_built options) ≡ k
 none_placed k [] = refl
-none_placed k (option ∷ options) = go (is_some option.bounds) (none_placed k options)
+none_placed k (option ∷ options) = go (takes_value option.takes) (none_placed k options)
   where
     go : (takes : Bool) → fold (λ (n : ℕ) (a : Rule). n + cond (is_some a.index) 1 0) k (map option_built options) ≡ k
         → fold (λ (n : ℕ) (a : Rule). n + cond (is_some a.index) 1 0) (k + cond (is_some (built_by takes option.name).index) 1 0) (map option_built options) ≡ k
@@ -113,7 +113,7 @@ found_options : (p : Rule → Bool) (name : Text) → ((takes : Bool) (own : Tex
     → find p (map option_built options) ≡ option_map option_built (row_by options name)
 found_options p name each [] = refl
 found_options p name each (option ∷ options) =
-    ap₂ (λ (b : Bool) (rest : Option Rule). cond b (Some (option_built option)) rest) (each (is_some option.bounds) option.name) (found_options p name each options) ∙ go (bytes_eq option.name name)
+    ap₂ (λ (b : Bool) (rest : Option Rule). cond b (Some (option_built option)) rest) (each (takes_value option.takes) option.name) (found_options p name each options) ∙ go (bytes_eq option.name name)
   where
     go : (b : Bool) → cond b (Some (option_built option)) (option_map option_built (row_by options name)) ≡ option_map option_built (cond b (Some option) (row_by options name))
     go true = refl
@@ -181,7 +181,7 @@ options_default : (rows : List Row) (options : List WordOption) → defaults_fau
 unfolding defaults_fault
 options_default rows [] = refl
 options_default rows (option ∷ options) =
-    ap₂ or_else (default_option (is_some option.bounds) option.name rows) (options_default (with_default rows (option_built option)) options)
+    ap₂ or_else (default_option (takes_value option.takes) option.name rows) (options_default (with_default rows (option_built option)) options)
 
 pub no_default_fault : (rows : List Row) (options : List WordOption) → defaults_fault rows (rules_built options) ≡ []
 unfolding defaults_fault

@@ -6,14 +6,13 @@ use Rattle.clap.specs.Simple.{App, Shape, entered, is_simple, matches_of, names_
 use Rattle.clap.specs.declared.parser.matches.ArgMatches.{ArgMatches}
 use Rattle.clap.specs.Kinds.{Kinds, or_else}
 use Rattle.clap.specs.Faults.{built_fault, entered_fault, fault_of, level_fault, is_simple_and_free, settle_fault, walk_fault}
-use Rattle.ct_words.specs.Table.{WordCommand, WordOption}
+use Rattle.ct_words.specs.Table.{WordCommand, WordOption, takes_value}
 use Rattle.ct_words.specs.Role.{name_len, ◌>>=◌}
 use Rattle.ct_words.specs.Parts.{WordParts, are_distinct, parts_of}
 use Rattle.ct_words.specs.Said.{told_of}
 use Rattle.ct_words.specs.Items.{WordItem, place, flagged, valued, WordLook, bad, ends_options, flag_word, option_word, value_word, look_with, row_by, look_at, look_dashed, look_row, plain_word, item_joined, items_of, parts_with, has_single, is_single, is_end}
 use Rattle.ct_words.specs.Command.{row_app}
 use Rattle.ct_words.specs.Reading.{IsParsedAs, parts_read, rows_found, distinct, told_as}
-use Rattle.ct_words.specs.declared.table.Bounds.{Bounds}
 use Rattle.ct_words.proofs.Items.{items-word, parts_items}
 use Rattle.ct_words.proofs.Rules.{rules_built, shape_built, row_built, no_default_fault, no_check_fault, simple_row, free_row}
 use Rattle.ct_words.proofs.Walks.{walk_at, fault_from, rows_from, Reads, walk_reads}
@@ -143,13 +142,13 @@ ends_word options (x ∷ y ∷ named) e = go (x == 45) (y == 45) named e
   where
     row_end : (row : Option WordOption) (sign : Text) → look_row row sign ≡ ends_options → ⊥
     row_end None sign e = cc
-    row_end (Some row) sign e = by_bounds row.bounds sign e
+    row_end (Some row) sign e = by_value (takes_value row.takes) sign e
       where
-        by_bounds : (bounds : Option Bounds) (sign : Text) → look_with row.name bounds sign ≡ ends_options → ⊥
-        by_bounds None [] e = cc
-        by_bounds None (s ∷ text) e = cc
-        by_bounds (Some bounds) [] e = cc
-        by_bounds (Some bounds) (s ∷ text) e = cc
+        by_value : (takes : Bool) (sign : Text) → look_with row.name takes sign ≡ ends_options → ⊥
+        by_value false [] e = cc
+        by_value false (s ∷ text) e = cc
+        by_value true [] e = cc
+        by_value true (s ∷ text) e = cc
 
     go : (a b : Bool) (named : Text) → cond a (dashed_by options b named) plain_word ≡ ends_options → (a && (b && bytes_eq named [])) ≡ true
     go true true [] e = refl

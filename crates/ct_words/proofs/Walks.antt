@@ -9,11 +9,12 @@ use Rattle.clap.specs.Walk.{Held, Row, Rule, Step, Text, Waiting, Walk, after_st
 use Rattle.clap.specs.Simple.{Shape}
 use Rattle.clap.specs.Kinds.{Kinds, or_else}
 use Rattle.clap.specs.Faults.{bundle_fault, flag_word_fault, long_fault, positional_fault, settle_fault, step_fault, turn_fault, use_fault, walk_fault, word_fault}
-use Rattle.ct_words.specs.Table.{WordOption}
+use Rattle.ct_words.specs.Table.{WordOption, takes_value}
 use Rattle.ct_words.specs.Role.{name_len}
 use Rattle.ct_words.specs.Items.{WordItem, place, flagged, valued, WordLook, ends_options, plain_word, look_with, look_row, row_by, look_dashed, look_at, item_joined, items_of, has_single}
 use Rattle.ct_words.specs.Command.{places_id}
-use Rattle.ct_words.specs.declared.table.Bounds.{Bounds}
+use Rattle.ct_words.specs.declared.table.Takes.{Takes}
+use Rattle.ct_words.specs.declared.table.Takes.TheVariants.{Nothing, Number, Name}
 use Rattle.ct_words.proofs.Uses.{item_fault, item_used, items_fault, items_used, IsNamed, AreNamed, or_else_assoc, or_else_nil, first_nil, second_nil}
 use Rattle.ct_words.proofs.Items.{items-word, found_name, found_again}
 use Rattle.ct_words.proofs.Rules.{place_built, built_by, option_built, rules_built, shape_built, by_id, by_long, name_no_sign, value_behind, value_is}
@@ -300,28 +301,38 @@ module _ (name : Text) (options : List WordOption) where
       after_step c word (walk_in at rows) (met_by (waiting_in at) word (held_at rows (pending_in at)) found (value_behind sign)).0 (met_by (waiting_in at) word (held_at rows (pending_in at)) found (value_behind sign)).1
 
   -- an option's own argument, with what stands from the sign on
-  given_step : (b : Bool) (pending : Option (Text × List Text)) (rows : List Row) (word : Text) (words : List Text) (own : Text) (bounds : Option Bounds) (sign : Text) (fault : Kinds)
-      → IsOwn (Some (record { name = own; bounds = bounds }))
+  abbrev GivenStep : Text → Takes → Text → Type 0
+  GivenStep own takes sign =
+      (b : Bool) (pending : Option (Text × List Text)) (rows : List Row) (word : Text) (words : List Text) (fault : Kinds) → IsOwn (Some (record { name = own; takes = takes }))
       → ((next : Standing) (after : List Row) → IsAsked next → ReadsFrom next after words)
-      → fault ≡ or_else (turn_at (free b pending) rows word (Some (record { name = own; bounds = bounds })) sign)
-      (fault_from name options (after_at (free b pending) rows word (Some (record { name = own; bounds = bounds })) sign) words)
-      → Reads (item_joined word words None (λ next. items_of options next words) (look_with own bounds sign)) fault
-      (rows_from options (after_at (free b pending) rows word (Some (record { name = own; bounds = bounds })) sign) words) (settle_fault c false (held_at rows pending)) (settled_rows c pending rows)
-  given_step b pending rows word words own None [] fault is more same =
-      one_more (flagged own) (items_of options None words) fault _ _ [] (settled_rows c pending rows) (settle_fault c false (held_at rows pending)) is.0
-      (more (free false None) (item_used (flagged own) (settled_rows c pending rows)) tt)
-      (same ∙ (ap (λ (k : Kinds). or_else k (fault_from name options (walk_in (free false None) (item_used (flagged own) (settled_rows c pending rows))) words)) (or_else_nil _)
-      ∙ or_else_assoc (settle_fault c false (held_at rows pending)) (item_fault (flagged own) (settled_rows c pending rows)) (fault_from name options (walk_in (free false None) (item_used (flagged own) (settled_rows c pending rows))) words))) refl
-  given_step b pending rows word words own None (sign ∷ text) fault is more same = λ e. some_kind _ _ (sym same ∙ e)
-  given_step b pending rows word words own (Some bounds) [] fault is more same =
+      → fault ≡ or_else (turn_at (free b pending) rows word (Some (record { name = own; takes = takes })) sign)
+      (fault_from name options (after_at (free b pending) rows word (Some (record { name = own; takes = takes })) sign) words)
+      → Reads (item_joined word words None (λ next. items_of options next words) (look_with own (takes_value takes) sign)) fault
+      (rows_from options (after_at (free b pending) rows word (Some (record { name = own; takes = takes })) sign) words) (settle_fault c false (held_at rows pending)) (settled_rows c pending rows)
+
+  value_step : (own sign : Text) → GivenStep own Name sign
+  value_step own [] b pending rows word words fault is more same =
       same_items (items_of options (Some own) words) fault _ _ (settled_rows c pending rows) (settle_fault c false (held_at rows pending))
       (more (asks own) (settled_rows c pending rows) is)
       (same ∙ ap (λ (k : Kinds). or_else k (fault_from name options (walk_in (asks own) (settled_rows c pending rows)) words)) (or_else_nil _))
-  given_step b pending rows word words own (Some bounds) (sign ∷ text) fault is more same =
+  value_step own (sign ∷ text) b pending rows word words fault is more same =
       one_more (valued own text) (items_of options None words) fault _ _ [] (settled_rows c pending rows) (settle_fault c false (held_at rows pending)) is.0
       (more (free false None) (item_used (valued own text) (settled_rows c pending rows)) tt)
       (same ∙ (ap (λ (k : Kinds). or_else k (fault_from name options (walk_in (free false None) (item_used (valued own text) (settled_rows c pending rows))) words)) (or_else_nil _)
       ∙ or_else_assoc (settle_fault c false (held_at rows pending)) (item_fault (valued own text) (settled_rows c pending rows)) (fault_from name options (walk_in (free false None) (item_used (valued own text) (settled_rows c pending rows))) words))) refl
+
+  flag_step : (own sign : Text) → GivenStep own Nothing sign
+  flag_step own [] b pending rows word words fault is more same =
+      one_more (flagged own) (items_of options None words) fault _ _ [] (settled_rows c pending rows) (settle_fault c false (held_at rows pending)) is.0
+      (more (free false None) (item_used (flagged own) (settled_rows c pending rows)) tt)
+      (same ∙ (ap (λ (k : Kinds). or_else k (fault_from name options (walk_in (free false None) (item_used (flagged own) (settled_rows c pending rows))) words)) (or_else_nil _)
+      ∙ or_else_assoc (settle_fault c false (held_at rows pending)) (item_fault (flagged own) (settled_rows c pending rows)) (fault_from name options (walk_in (free false None) (item_used (flagged own) (settled_rows c pending rows))) words))) refl
+  flag_step own (sign ∷ text) b pending rows word words fault is more same = λ e. some_kind _ _ (sym same ∙ e)
+
+  given_step : (own : Text) (takes : Takes) (sign : Text) → GivenStep own takes sign
+  given_step own Nothing sign = flag_step own sign
+  given_step own (Number bounds) sign = value_step own sign
+  given_step own Name sign = value_step own sign
 
   -- an option that asks for its value gets none
   unanswered : (own : Text) (rows : List Row) → IsAsked (asks own) → settle_fault c false (held_at rows (Some (own, []))) ≡ [] → ⊥
@@ -329,24 +340,26 @@ module _ (name : Text) (options : List WordOption) where
 
   asks_step : (own : Text) (rows : List Row) (word : Text) (found : Option WordOption) (sign : Text) → IsAsked (asks own) → turn_at (asks own) rows word found sign ≡ [] → ⊥
   asks_step own rows word None sign asked e = some_kind _ _ e
-  asks_step own rows word (Some row) sign asked e = go row.name row.bounds sign e
+  asks_step own rows word (Some row) sign asked e = go row.name row.takes sign e
     where
-      go : (name : Text) (bounds : Option Bounds) (sign : Text) → turn_at (asks own) rows word (Some (record { name = name; bounds = bounds })) sign ≡ [] → ⊥
-      go name None [] e = unanswered own rows asked (first_nil _ _ (first_nil _ _ e))
-      go name None (x ∷ text) e = some_kind _ _ e
-      go name (Some bounds) [] e = unanswered own rows asked (first_nil _ _ e)
-      go name (Some bounds) (x ∷ text) e = unanswered own rows asked (first_nil _ _ (first_nil _ _ e))
+      go : (name : Text) (takes : Takes) (sign : Text) → turn_at (asks own) rows word (Some (record { name = name; takes = takes })) sign ≡ [] → ⊥
+      go name Nothing [] e = unanswered own rows asked (first_nil _ _ (first_nil _ _ e))
+      go name Nothing (x ∷ text) e = some_kind _ _ e
+      go name (Number bounds) [] e = unanswered own rows asked (first_nil _ _ e)
+      go name (Number bounds) (x ∷ text) e = unanswered own rows asked (first_nil _ _ (first_nil _ _ e))
+      go name Name [] e = unanswered own rows asked (first_nil _ _ e)
+      go name Name (x ∷ text) e = unanswered own rows asked (first_nil _ _ (first_nil _ _ e))
 
   waits_none : (own : Text) (word : Text) (words : List Text) (found : Option WordOption) (sign : Text) (fault before : Kinds) (end rows : List Row) → (fault ≡ [] → ⊥)
       → Reads (item_joined word words (Some own) (λ next. items_of options next words) (look_row found sign)) fault end before rows
   waits_none own word words None sign fault before end rows fails = fails
-  waits_none own word words (Some row) sign fault before end rows fails = go row.bounds sign
+  waits_none own word words (Some row) sign fault before end rows fails = go (takes_value row.takes) sign
     where
-      go : (bounds : Option Bounds) (sign : Text) → Reads (item_joined word words (Some own) (λ next. items_of options next words) (look_with row.name bounds sign)) fault end before rows
-      go None [] = fails
-      go None (x ∷ text) = fails
-      go (Some bounds) [] = fails
-      go (Some bounds) (x ∷ text) = fails
+      go : (takes : Bool) (sign : Text) → Reads (item_joined word words (Some own) (λ next. items_of options next words) (look_with row.name takes sign)) fault end before rows
+      go false [] = fails
+      go false (x ∷ text) = fails
+      go true [] = fails
+      go true (x ∷ text) = fails
 
   option_step : (at : Standing) (rows : List Row) (byte : ℕ) (named : Text) (words : List Text) → IsAsked at
       → ((next : Standing) (after : List Row) → IsAsked next → ReadsFrom next after words) → ReadsFrom at rows ((45 ∷ 45 ∷ byte ∷ named) ∷ words)
@@ -366,7 +379,7 @@ module _ (name : Text) (options : List WordOption) where
           → Reads (item_joined (45 ∷ 45 ∷ byte ∷ named) words (name_in at) (λ next. items_of options next words) (look_row found sign)) fault
           (rows_from options (after_at at rows (45 ∷ 45 ∷ byte ∷ named) found sign) words) (before_in at rows) (rows_in at rows)
       go (free b pending) None sign asked own fault same = λ e. some_kind _ _ (sym same ∙ e)
-      go (free b pending) (Some row) sign asked own fault same = given_step b pending rows (45 ∷ 45 ∷ byte ∷ named) words row.name row.bounds sign fault own more same
+      go (free b pending) (Some row) sign asked own fault same = given_step row.name row.takes sign b pending rows (45 ∷ 45 ∷ byte ∷ named) words fault own more same
       go (asks name) found sign asked own fault same =
           waits_none name (45 ∷ 45 ∷ byte ∷ named) words found sign fault [] _ rows (λ e. asks_step name rows (45 ∷ 45 ∷ byte ∷ named) found sign asked (first_nil _ _ (sym same ∙ e)))
 

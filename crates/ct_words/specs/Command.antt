@@ -1,9 +1,9 @@
 -- The clap command of a row: a place for the positional words, and an argument for each option.
-use Rattle.std.specs.Prelude.{Bool, true, false, List, [], ◌∷◌, map, Some, is_some, codes}
+use Rattle.std.specs.Prelude.{Bool, true, false, List, [], ◌∷◌, map, Some, codes}
 use Rattle.clap.specs.Walk.{Rule, Text}
 use Rattle.clap.specs.Simple.{App, new_rule, new_shape}
 use Rattle.clap.specs.declared.builder.action.ArgAction.TheVariants.{Append, Set, SetTrue}
-use Rattle.ct_words.specs.Table.{WordOption}
+use Rattle.ct_words.specs.Table.{WordOption, takes_value}
 
 -- The positional words stand under a name that no word gives to an option, since an option's name ends at '='.
 abbrev pub places_id : Text
@@ -23,7 +23,7 @@ rule_by true name = value_rule name
 rule_by false name = flag_rule name
 
 abbrev pub option_rule : WordOption → Rule
-option_rule option = rule_by (is_some option.bounds) option.name
+option_rule option = rule_by (takes_value option.takes) option.name
 
 abbrev pub app_with : Text → List Rule → App
 app_with name rules = record { top = record (new_shape name) { rules = rules; no_binary_name = true; disable_help_flag = true; disable_version_flag = true }; subs = [] }

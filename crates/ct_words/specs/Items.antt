@@ -1,10 +1,10 @@
--- The words after a command's name as clap takes them: which option or positional word each is, before any number is read.
-use Rattle.std.specs.Prelude.{ℕ, Bool, false, ◌==◌, ◌&&◌, ◌||◌, not, if◌then◌else◌, List, [], ◌∷◌, map, take, drop, find, option_map, Option, Some, None, codes}
+-- The words after a command's name as clap takes them: which option or positional word each is, before any value is read.
+use Rattle.std.specs.Prelude.{ℕ, Bool, true, false, ◌==◌, ◌&&◌, ◌||◌, not, if◌then◌else◌, List, [], ◌∷◌, map, take, drop, find, option_map, Option, Some, None, codes}
 use Rattle.std.specs.Str.{bytes_eq}
-use Rattle.ct_words.specs.Table.{WordOption}
-use Rattle.ct_words.specs.Role.{WordGiven, number_in, name_len, ◌>>=◌}
+use Rattle.ct_words.specs.Table.{WordOption, takes_value}
+use Rattle.ct_words.specs.Role.{WordGiven, value_in, name_len, ◌>>=◌}
 use Rattle.ct_words.specs.Parts.{WordParts, with_place, with_given}
-use Rattle.ct_words.specs.declared.table.Bounds.{Bounds}
+use Rattle.ct_words.specs.declared.table.Takes.{Takes}
 
 -- a positional word, a flag, or an option with its value
 pub data WordItem : Type 0 where
@@ -22,15 +22,16 @@ pub data WordLook : Type 0 where
   option_word : List ℕ → WordLook
   value_word : List ℕ → List ℕ → WordLook
 
-abbrev pub look_with : List ℕ → Option Bounds → List ℕ → WordLook
-look_with name None [] = flag_word name
-look_with name None (sign ∷ text) = bad
-look_with name (Some bounds) [] = option_word name
-look_with name (Some bounds) (sign ∷ text) = value_word name text
+-- by whether the option takes a value
+abbrev pub look_with : List ℕ → Bool → List ℕ → WordLook
+look_with name false [] = flag_word name
+look_with name false (sign ∷ text) = bad
+look_with name true [] = option_word name
+look_with name true (sign ∷ text) = value_word name text
 
 abbrev pub look_row : Option WordOption → List ℕ → WordLook
 look_row None from_sign = bad
-look_row (Some row) from_sign = look_with row.name row.bounds from_sign
+look_row (Some row) from_sign = look_with row.name (takes_value row.takes) from_sign
 
 abbrev pub row_by : List WordOption → List ℕ → Option WordOption
 row_by options name = find (λ row. bytes_eq row.name name) options
@@ -61,16 +62,14 @@ items_of options None [] = Some []
 items_of options (Some name) [] = None
 items_of options waiting (word ∷ words) = item_joined word words waiting (λ next. items_of options next words) (look_at options word)
 
--- ---- numbers
+-- ---- values
 
-abbrev pub given_with : List ℕ → Option Bounds → Option (List ℕ) → Option WordGiven
-given_with name None text = Some (record { name = name; value = None })
-given_with name (Some bounds) None = None
-given_with name (Some bounds) (Some text) = number_in bounds text >>= λ n. Some (record { name = name; value = Some n })
+abbrev pub given_with : List ℕ → Takes → Option (List ℕ) → Option WordGiven
+given_with name takes text = text >>= value_in takes >>= λ value. Some (record { name = name; value = value })
 
--- the option of this name, with the number that its text spells
+-- the option of this name, with what its text gives to it
 abbrev pub given_by : List WordOption → List ℕ → Option (List ℕ) → Option WordGiven
-given_by options name text = row_by options name >>= λ row. given_with row.name row.bounds text
+given_by options name text = row_by options name >>= λ row. given_with row.name row.takes text
 
 abbrev pub with_one : Option WordGiven → Option WordParts → Option WordParts
 with_one None parts = None

@@ -3,7 +3,7 @@ use Rattle.std.specs.Prelude.{ℕ, ◌&&◌, Bool, true, not, List, [], ◌∷�
 use Rattle.std.specs.Str.{bytes_eq}
 use Rattle.std.specs.List.{list_any}
 use Rattle.ct_words.specs.Table.{WordOption}
-use Rattle.ct_words.specs.Role.{WordGiven, WordAsked, WordRole, ends, positional, says, opens, role_of, given_seen, ◌>>=◌}
+use Rattle.ct_words.specs.Role.{WordGiven, WordAsked, WordRole, ends, positional, says, opens, role_of, given_seen, number_given, text_given, ◌>>=◌}
 use Rattle.ct_words.specs.declared.parts.Parts.{Parts}
 
 -- positional words and options, each in their order
@@ -36,9 +36,13 @@ parts_of options waiting (word ∷ words) = role_of options waiting word >>= joi
 abbrev pub has_name : List ℕ → List WordGiven → Bool
 has_name name given = list_any (λ one. bytes_eq one.name name) given
 
--- the value of the option of this name, if it was given and takes one
+-- the number that the option of this name was given, if it was given and takes one
 abbrev pub value_of : List ℕ → List WordGiven → Option ℕ
-value_of name given = find (λ one. bytes_eq one.name name) given >>= λ one. one.value
+value_of name given = find (λ one. bytes_eq one.name name) given >>= λ one. number_given one.value
+
+-- the text, likewise
+abbrev pub text_of : List ℕ → List WordGiven → Option (List ℕ)
+text_of name given = find (λ one. bytes_eq one.name name) given >>= λ one. text_given one.value
 
 -- no option stands twice
 abbrev pub are_distinct : List WordGiven → Bool

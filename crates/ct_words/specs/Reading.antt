@@ -39,7 +39,7 @@ abbrev pub with_head : Option WordGiven → Option (List WordGiven) → Option (
 with_head None others = None
 with_head (Some given) others = option_map (λ list. given ∷ list) others
 
--- the options among the ids, each with its number
+-- the options among the ids, each with its value
 unfoldable pub given_in : List WordOption → List Row → List Text → Option (List WordGiven)
 given_in options rows [] = Some []
 given_in options rows (id ∷ ids) =

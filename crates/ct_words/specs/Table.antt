@@ -1,16 +1,23 @@
 -- The table of commands.
-use Rattle.std.specs.Prelude.{ℕ, List, [], ◌∷◌, map, Option, Some, None, codes}
+use Rattle.std.specs.Prelude.{ℕ, Bool, true, false, List, [], ◌∷◌, map, Option, Some, None, codes}
 use Rattle.ct_vectors.specs.declared.limits.TheConstants.{GRADE_LIMIT, MOVE_LIMIT, WORKER_LIMIT}
 use Rattle.ct_words.specs.declared.table.Bounds.{Bounds}
 use Rattle.ct_words.specs.declared.table.CommandName.{CommandName}
 use Rattle.ct_words.specs.declared.table.CommandName.TheVariants.{Answer, Best, Certify, Check, Make, Serve}
 use Rattle.ct_words.specs.declared.table.OptionRow.{OptionRow}
 use Rattle.ct_words.specs.declared.table.CommandRow.{CommandRow}
+use Rattle.ct_words.specs.declared.table.Takes.{Takes}
+use Rattle.ct_words.specs.declared.table.Takes.TheVariants.{Nothing, Number, Name}
 
--- an option, without its dashes; a flag has no bounds, since it takes no value
+-- an option, without its dashes, and what it takes: nothing, a number within bounds, or a name
 pub record WordOption : Type 0 where
   pub name : List ℕ
-  pub bounds : Option Bounds
+  pub takes : Takes
+
+abbrev pub takes_value : Takes → Bool
+takes_value Nothing = false
+takes_value (Number bounds) = true
+takes_value Name = true
 
 -- a command: what each positional word is in turn, a number within bounds or a text, and its options
 pub record WordCommand : Type 0 where
@@ -20,24 +27,31 @@ pub record WordCommand : Type 0 where
   pub options : List WordOption
 
 abbrev pub option_seen : OptionRow → WordOption
-option_seen row = record { name = row.name.now; bounds = row.bounds }
+option_seen row = record { name = row.name.now; takes = row.takes }
 
 abbrev pub command_seen : CommandRow → WordCommand
 command_seen row = record { command = row.command; name = row.name.now; places = row.places.now; options = map option_seen row.options.now }
 
 abbrev pub flag : List ℕ → WordOption
-flag name = record { name = name; bounds = None }
+flag name = record { name = name; takes = Nothing }
+
+abbrev pub within : ℕ → ℕ → Bounds
+within low high = record { low = low; high = high }
 
 abbrev pub from_to : ℕ → ℕ → Option Bounds
-from_to low high = Some (record { low = low; high = high })
+from_to low high = Some (within low high)
 
 -- --moves N
 abbrev pub moves : WordOption
-moves = record { name = codes "moves"; bounds = from_to 1 MOVE_LIMIT }
+moves = record { name = codes "moves"; takes = Number (within 1 MOVE_LIMIT) }
 
 -- --workers N
 abbrev pub workers : WordOption
-workers = record { name = codes "workers"; bounds = from_to 0 WORKER_LIMIT }
+workers = record { name = codes "workers"; takes = Number (within 0 WORKER_LIMIT) }
+
+-- --resume LEDGER
+abbrev pub resume : WordOption
+resume = record { name = codes "resume"; takes = Name }
 
 abbrev pub any_text : Option Bounds
 any_text = None
@@ -54,5 +68,5 @@ commands =
     ∷ record { command = Certify; name = codes "certify"; places = any_text ∷ from_to 0 GRADE_LIMIT ∷ []; options = moves ∷ [] }
     ∷ record { command = Check; name = codes "check"; places = any_text ∷ any_text ∷ []; options = flag (codes "batch") ∷ [] }
     ∷ record { command = Make; name = codes "make"; places = any_number ∷ []; options = [] }
-    ∷ record { command = Serve; name = codes "serve"; places = any_text ∷ any_text ∷ []; options = workers ∷ flag (codes "walks") ∷ flag (codes "levels") ∷ moves ∷ [] }
+    ∷ record { command = Serve; name = codes "serve"; places = any_text ∷ any_text ∷ []; options = workers ∷ flag (codes "walks") ∷ flag (codes "levels") ∷ moves ∷ resume ∷ [] }
     ∷ []

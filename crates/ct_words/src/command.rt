@@ -4,7 +4,7 @@ ghost use Rattle.clap.specs.Words.{app_of, rule_of};
 ghost use Rattle.ct_words.specs.Table.{option_seen};
 ghost use Rattle.ct_words.specs.Command.{app_with, flag_rule, option_rule, place_rule, row_app, value_rule};
 
-use crate::table::{CommandRow, OptionRow};
+use crate::table::{CommandRow, OptionRow, Takes};
 use clap::{Arg, ArgAction, Command};
 use std::alloc::{AllocError, Global};
 
@@ -36,9 +36,9 @@ fn option_arg<'a>(alloc: Global, row: OptionRow) -> Arg<'a>
     ensures rule { rule_of result ≡ option_rule (option_seen row) }
     ensures own { result.global ≡ false }
 {
-    match row.bounds {
-        Some(_) => value_arg(alloc, row.name),
-        None => flag_arg(alloc, row.name),
+    match row.takes {
+        Takes::Nothing => flag_arg(alloc, row.name),
+        Takes::Number(_) | Takes::Name => value_arg(alloc, row.name),
     }
 }
 

@@ -10,6 +10,6 @@ mod role;
 mod said;
 mod table;
 
-pub use role::Given;
+pub use role::{Given, Value};
 pub use said::{Positional, Said, said_by, said_in};
-pub use table::{Bounds, COMMANDS, CommandName, CommandRow, OptionRow};
+pub use table::{Bounds, COMMANDS, CommandName, CommandRow, OptionRow, Takes};

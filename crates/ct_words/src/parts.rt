@@ -7,13 +7,13 @@ ghost use Rattle.clap.specs.Faults.{is_simple_and_free};
 ghost use Rattle.clap.specs.Walk.{first_of};
 ghost use Rattle.ct_words.specs.Table.{option_seen};
 ghost use Rattle.ct_words.specs.Role.{given_seen};
-ghost use Rattle.ct_words.specs.Parts.{parts_of, parts_seen, has_name, value_of};
+ghost use Rattle.ct_words.specs.Parts.{parts_of, parts_seen, has_name, text_of, value_of};
 ghost use Rattle.ct_words.specs.Items.{given_by, has_single, is_single};
 ghost use Rattle.ct_words.specs.Command.{places_id};
 ghost use Rattle.ct_words.specs.Reading.{IsParsedAs, distinct, given_in, is_command_line, is_said, parts_read, places_in, rows_found};
 
 use crate::command::{PLACES, command_of};
-use crate::role::{Given, given_by};
+use crate::role::{Given, Value, given_by};
 use crate::table::{CommandRow, OptionRow};
 use clap::error::ErrorKind;
 use clap::parser::ValueSource;
@@ -24,7 +24,7 @@ use std::alloc::{AllocError, Global};
 #[derive(Drop)]
 pub struct Parts<'a> {
     pub places: Vec<&'a str>,
-    pub given: Vec<Given>,
+    pub given: Vec<Given<'a>>,
 }
 
 fn is_single(word: &[u8]) -> bool
@@ -93,18 +93,18 @@ fn is_given(matches: &ArgMatches<'_>, id: &str) -> bool
     id != PLACES && is_said(matches, id)
 }
 
-fn option_given(rows: &[OptionRow], matches: &ArgMatches<'_>, id: &str) -> Option<Given>
+fn option_given<'a>(rows: &[OptionRow], matches: &ArgMatches<'a>, id: &str) -> Option<Given<'a>>
     ensures { option_map given_seen result ≡ given_by (map option_seen rows.now) id.now (first_of id.now (rows_found matches.now)) }
 {
     given_by(rows, id, matches.get_str(id))
 }
 
 // The options in the order in which they were given.
-fn given_in(
+fn given_in<'a>(
     alloc: Global,
     rows: &[OptionRow],
-    matches: &ArgMatches<'_>,
-) -> Result<Option<Vec<Given>>, AllocError>
+    matches: &ArgMatches<'a>,
+) -> Result<Option<Vec<Given<'a>>>, AllocError>
     ensures { IfOk result (λ given. option_map (λ list. map given_seen list.items) given ≡ given_in (map option_seen rows.now) (rows_found matches.now) (map (λ row. row.id) (rows_found matches.now))) }
 {
     let mut given = Vec::new(alloc);
@@ -174,37 +174,47 @@ pub fn parts_in<'a>(
     }
 }
 
-fn has_one_named(given: &[Given], name: &str) -> bool
+fn has_one_named(given: &[Given<'_>], name: &str) -> bool
     ensures { result ≡ list_any (λ one. bytes_eq one.name.now name.now) given.now }
 {
     given.iter().any(|one| one.name == name)
 }
 
 /// Whether an option of this name is among those that were given.
-pub fn is_named(given: &[Given], name: &str) -> bool
+pub fn is_named(given: &[Given<'_>], name: &str) -> bool
     ensures { result ≡ has_name name.now (map given_seen given.now) }
 {
     has_one_named(given, name)
 }
 
-fn first_named(given: &[Given], name: &str) -> Option<Given>
+fn first_named<'a>(given: &[Given<'a>], name: &str) -> Option<Given<'a>>
     ensures { result ≡ find (λ one. bytes_eq one.name.now name.now) given.now }
 {
     given.iter().copied().find(|one| one.name == name)
 }
 
-fn one_named(given: &[Given], name: &str) -> Option<Given>
+fn one_named<'a>(given: &[Given<'a>], name: &str) -> Option<Given<'a>>
     ensures { option_map given_seen result ≡ find (λ one. bytes_eq one.name name.now) (map given_seen given.now) }
 {
     first_named(given, name)
 }
 
-/// The value of the option of this name among those that were given.
-pub fn value_named(given: &[Given], name: &str) -> Option<u64>
+/// The number that the option of this name was given.
+pub fn value_named(given: &[Given<'_>], name: &str) -> Option<u64>
     ensures { result ≡ value_of name.now (map given_seen given.now) }
 {
-    match one_named(given, name) {
-        Some(one) => one.value,
-        None => None,
+    match one_named(given, name)?.value {
+        Value::Number(number) => Some(number),
+        Value::Nothing | Value::Text(_) => None,
+    }
+}
+
+/// The text that the option of this name was given.
+pub fn text_named<'a>(given: &[Given<'a>], name: &str) -> Option<&'a str>
+    ensures { option_map (λ word. word.now) result ≡ text_of name.now (map given_seen given.now) }
+{
+    match one_named(given, name)?.value {
+        Value::Text(text) => Some(text),
+        Value::Nothing | Value::Number(_) => None,
     }
 }

@@ -1,18 +1,29 @@
-//! An option that was given, with the number that its value spells.
-ghost use Rattle.std.specs.Prelude.{◌≡◌, Some, find, map, option_map};
+//! An option that was given, with its value.
+ghost use Rattle.std.specs.Prelude.{◌≡◌, find, map, option_map};
 ghost use Rattle.std.specs.Str.{bytes_eq};
 ghost use Rattle.ct_words.specs.Table.{option_seen};
-ghost use Rattle.ct_words.specs.Role.{given_seen, number_in};
+ghost use Rattle.ct_words.specs.Role.{given_seen, is_name, number_in, value_in, value_seen};
 ghost use Rattle.ct_words.specs.Items.{given_by, given_with};
 
-use crate::table::{Bounds, OptionRow};
+use crate::table::{Bounds, OptionRow, Takes};
 use ct_text::natural;
 
-/// An option that was given: its name without the dashes, and its value where it takes one.
+/// What an option was given.
 #[derive(Clone, Copy, Debug)]
-pub struct Given {
+pub enum Value<'a> {
+    /// It takes nothing.
+    Nothing,
+    /// A number within the option's bounds.
+    Number(u64),
+    /// A name, as it was said.
+    Text(&'a str),
+}
+
+/// An option that was given: its name without the dashes, and its value.
+#[derive(Clone, Copy, Debug)]
+pub struct Given<'a> {
     pub name: &'static str,
-    pub value: Option<u64>,
+    pub value: Value<'a>,
 }
 
 /// The number that the word spells, if it is within the bounds.
@@ -43,36 +54,51 @@ fn row_named(rows: &[OptionRow], name: &str) -> Option<OptionRow>
     first_named(rows, name)
 }
 
-fn number_given(name: &'static str, bounds: Bounds, text: &str) -> Option<Given>
-    ensures { option_map given_seen result ≡ given_with name.now (Some bounds) (Some text.now) }
+// Whether it isn't empty and doesn't begin with a dash.
+fn is_name(word: &[u8]) -> bool
+    ensures { result ≡ is_name word.now }
 {
-    match number_of(bounds, text.as_bytes()) {
-        Some(number) => Some(Given {
-            name,
-            value: Some(number),
+    match word {
+        [first, ..] => *first != b'-',
+        [] => false,
+    }
+}
+
+// What the word gives to an option.
+fn value_in<'a>(takes: Takes, word: &'a str) -> Option<Value<'a>>
+    ensures { option_map value_seen result ≡ value_in takes word.entry.now }
+{
+    match takes {
+        Takes::Nothing => Some(Value::Nothing),
+        Takes::Number(bounds) => match number_of(bounds, word.as_bytes()) {
+            Some(number) => Some(Value::Number(number)),
+            None => None,
+        },
+        Takes::Name => {
+            if is_name(word.as_bytes()) {
+                Some(Value::Text(word))
+            } else {
+                None
+            }
+        }
+    }
+}
+
+// The option of this row, with its value as it was said.
+fn given_with<'a>(row: OptionRow, text: Option<&'a str>) -> Option<Given<'a>>
+    ensures { option_map given_seen result ≡ given_with row.name.now row.takes (option_map (λ said. said.now) text.entry) }
+{
+    match value_in(row.takes, text?) {
+        Some(value) => Some(Given {
+            name: row.name,
+            value,
         }),
         None => None,
     }
 }
 
-// The option of this row, with its value as it was said.
-fn given_with(row: OptionRow, text: Option<&str>) -> Option<Given>
-    ensures { option_map given_seen result ≡ given_with row.name.now row.bounds (option_map (λ said. said.now) text.entry) }
-{
-    match row.bounds {
-        None => Some(Given {
-            name: row.name,
-            value: None,
-        }),
-        Some(bounds) => match text {
-            Some(text) => number_given(row.name, bounds, text),
-            None => None,
-        },
-    }
-}
-
-/// The option of this name, with its value as it was said; `None` where it is no number within the option's bounds.
-pub fn given_by(rows: &[OptionRow], name: &str, text: Option<&str>) -> Option<Given>
+/// The option of this name, with its value as it was said; `None` where it isn't what the option takes.
+pub fn given_by<'a>(rows: &[OptionRow], name: &str, text: Option<&'a str>) -> Option<Given<'a>>
     ensures { option_map given_seen result ≡ given_by (map option_seen rows.now) name.now (option_map (λ said. said.now) text.entry) }
 {
     match row_named(rows, name) {

@@ -7,7 +7,7 @@ ghost use Rattle.ct_words.specs.Parts.{parts_seen};
 ghost use Rattle.ct_words.specs.Reading.{told_as};
 ghost use Rattle.ct_words.specs.Said.{place_of, place_seen, places_of, named_of, said_of, seen};
 
-use crate::parts::{Parts, is_named, parts_in, value_named};
+use crate::parts::{Parts, is_named, parts_in, text_named, value_named};
 use crate::role::{Given, number_of};
 use crate::table::{Bounds, COMMANDS, CommandName, CommandRow};
 use std::alloc::{AllocError, Global};
@@ -26,13 +26,13 @@ pub enum Positional<'a> {
 pub struct Said<'a> {
     pub command: CommandName,
     pub places: Vec<Positional<'a>>,
-    pub given: Vec<Given>,
+    pub given: Vec<Given<'a>>,
 }
 
 impl<'a> Said<'a> {
-    ghost use Rattle.std.specs.Prelude.{◌≡◌, map};
+    ghost use Rattle.std.specs.Prelude.{◌≡◌, map, option_map};
     ghost use Rattle.ct_words.specs.Role.{given_seen};
-    ghost use Rattle.ct_words.specs.Parts.{has_name, value_of};
+    ghost use Rattle.ct_words.specs.Parts.{has_name, text_of, value_of};
 
     /// Whether the option of this name, without its dashes, was given.
     pub fn has(&self, name: &str) -> bool
@@ -41,11 +41,19 @@ impl<'a> Said<'a> {
         is_named(&self.given, name)
     }
 
-    /// The value of the option of this name, without its dashes; `None` where it wasn't given or takes none.
+    /// The number that the option of this name, without its dashes, was given; `None` where it wasn't given or takes no
+    /// number.
     pub fn value(&self, name: &str) -> Option<u64>
         ensures { result ≡ value_of name.now (map given_seen self.now.given.items) }
     {
         value_named(&self.given, name)
+    }
+
+    /// As [`Said::value`], of an option that takes a name.
+    pub fn text(&self, name: &str) -> Option<&'a str>
+        ensures { option_map (λ word. word.now) result ≡ text_of name.now (map given_seen self.now.given.items) }
+    {
+        text_named(&self.given, name)
     }
 }
 

@@ -26,11 +26,22 @@ pub struct Bounds {
     pub high: u64,
 }
 
-/// An option of a command, without the dashes before its name. A flag has no bounds, since it takes no value.
+/// What the value of an option is.
+#[derive(Clone, Copy, Debug)]
+pub enum Takes {
+    /// The option is a flag.
+    Nothing,
+    /// A number within bounds.
+    Number(Bounds),
+    /// A text that isn't empty and doesn't begin with a dash.
+    Name,
+}
+
+/// An option of a command, without the dashes before its name.
 #[derive(Clone, Copy, Debug)]
 pub struct OptionRow {
     pub name: &'static str,
-    pub bounds: Option<Bounds>,
+    pub takes: Takes,
 }
 
 /// A command, with what each positional word is in turn, a number within bounds or a text, and its options.
@@ -44,22 +55,22 @@ pub struct CommandRow {
 
 const WALKS: OptionRow = OptionRow {
     name: "walks",
-    bounds: None,
+    takes: Takes::Nothing,
 };
 
 const LEVELS: OptionRow = OptionRow {
     name: "levels",
-    bounds: None,
+    takes: Takes::Nothing,
 };
 
 const BATCH: OptionRow = OptionRow {
     name: "batch",
-    bounds: None,
+    takes: Takes::Nothing,
 };
 
 const MOVES: OptionRow = OptionRow {
     name: "moves",
-    bounds: Some(Bounds {
+    takes: Takes::Number(Bounds {
         low: 1,
         high: MOVE_LIMIT as u64,
     }),
@@ -67,10 +78,15 @@ const MOVES: OptionRow = OptionRow {
 
 const WORKERS: OptionRow = OptionRow {
     name: "workers",
-    bounds: Some(Bounds {
+    takes: Takes::Number(Bounds {
         low: 0,
         high: WORKER_LIMIT,
     }),
+};
+
+const RESUME: OptionRow = OptionRow {
+    name: "resume",
+    takes: Takes::Name,
 };
 
 const GRADE: Bounds = Bounds {
@@ -121,6 +137,6 @@ pub static COMMANDS: [CommandRow; 6] = [
         command: CommandName::Serve,
         name: "serve",
         places: &[None, None],
-        options: &[WORKERS, WALKS, LEVELS, MOVES],
+        options: &[WORKERS, WALKS, LEVELS, MOVES, RESUME],
     },
 ];

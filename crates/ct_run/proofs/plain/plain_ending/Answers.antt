@@ -15,7 +15,7 @@ plain_is_batch (Some (on instance work)) = by_flag (is_batch work)
     by_flag true = refl
     by_flag false = refl
 plain_is_batch (Some (make number)) = refl
-plain_is_batch (Some (serve instance sessions workers walks levels moves)) = refl
+plain_is_batch (Some (serve instance sessions resume workers walks levels moves)) = refl
 
 pub returns-clause-ran : goal.returns-clause-ran
 returns-clause-ran g c =

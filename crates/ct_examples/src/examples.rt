@@ -1,7 +1,7 @@
 //! Examples: each folder's script is answered and served by its real files, and what is written is compared with its
 //! output.txt, and with walks with its walks.txt. Each is served by two workers too, where an ask may be told that it came
 //! too early. The two files of an example are texts, `.txt`, or JSON, `.json`. An example with a ledger.txt is certified up to
-//! its grade, and served with it.
+//! its grade, and served with it, and one with a box.txt is answered by its box with walks.
 
 use anyhow::{Context, Result};
 use ct_outside::{Disk, FileShelf, MemSink};
@@ -54,6 +54,21 @@ fn is_written<R: Files + AllocGlobal + Threads + Wait + Sync>(
         Some(out) => out.held() == stored.as_bytes(),
         None => false,
     })
+}
+
+// Whether it writes what the folder's file of this name has, where there is one.
+fn is_stored<R: Files + AllocGlobal + Threads + Wait + Sync>(
+    rt: &R,
+    folder: &str,
+    name: &str,
+    said: &[&str],
+) -> Result<bool> {
+    let file = format!(in rt.alloc(); "{folder}/{name}")?;
+    if !fs::exists(rt, file.as_str())? {
+        return Ok(true);
+    }
+    let stored = fs::read_to_string(rt, file.as_str())?;
+    is_written(rt, said, stored.as_str())
 }
 
 // Whether the example's ledger, if it has one, is what is certified up to its grade, and no ask comes too early with it.
@@ -112,7 +127,13 @@ pub fn is_as_stored<R: Files + AllocGlobal + Threads + Wait + Sync>(
             &["answer", "--walks", instance, sessions],
             walks.as_str(),
         )?;
-    if !is_answered || !is_resumed(rt, folder, instance, sessions, output.as_str())? {
+    let is_boxed = is_stored(
+        rt,
+        folder,
+        "box.txt",
+        &["box", "--walks", instance, sessions],
+    )?;
+    if !is_answered || !is_boxed || !is_resumed(rt, folder, instance, sessions, output.as_str())? {
         return Ok(false);
     }
     match written(rt, &["serve", "--workers", "2", instance, sessions])? {

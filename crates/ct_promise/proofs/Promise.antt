@@ -27,7 +27,7 @@ use Rattle.ct_words.specs.declared.table.CommandName.{CommandName}
 use Rattle.ct_words.specs.declared.table.CommandName.TheVariants as names
 use Rattle.ct_run.specs.declared.status.Status.{Status}
 use Rattle.ct_run.specs.declared.status.Status.TheVariants.{Done, BadInstance, BadSessions, BadLedger, LedgerRefused, NotReduced}
-use Rattle.ct_run.specs.Words.{Work, answer, best, certify, check, Command, on, make, serve, limit_in, workers_in, two_texts, text_and_number, texts_and_number, one_number, as_command, command_of, IsValueOf}
+use Rattle.ct_run.specs.Words.{Work, answer, best, box, certify, check, Command, on, make, serve, limit_in, workers_in, two_texts, text_and_number, texts_and_number, one_number, as_command, command_of, IsValueOf}
 use Rattle.ct_run.specs.Forms.{form_file, session_file}
 use Rattle.ct_run.specs.Outcome.{RunOutcome, bad_instance, bad_sessions, answered, resumed, Wrote, is_stop}
 use Rattle.ct_run.specs.Checked.{IsLedgerEnding, over, faulty, bad, weighed}
@@ -61,6 +61,7 @@ said_has_limit : (command : CommandName) (places : List WordPlace) (given : List
 said_has_limit names.Answer places given small =
     mapped_has (λ (x : List ℕ × List ℕ). on x.0 (answer x.1 (has_name (codes "walks") given) (has_name (codes "levels") given) (has_name (codes "batch") given) (limit_in given))) (two_texts places) (λ x. small)
 said_has_limit names.Best places given small = mapped_has (λ (x : List ℕ × List ℕ × ℕ). on x.0 (best x.1 x.2 (limit_in given))) (texts_and_number places) (λ x. tt)
+said_has_limit names.Box places given small = mapped_has (λ (x : List ℕ × List ℕ). on x.0 (box x.1 (has_name (codes "walks") given) (limit_in given))) (two_texts places) (λ x. tt)
 said_has_limit names.Certify places given small = mapped_has (λ (x : List ℕ × ℕ). on x.0 (certify x.1 (limit_in given))) (text_and_number places) (λ x. tt)
 said_has_limit names.Check places given small = mapped_has (λ (x : List ℕ × List ℕ). on x.0 (check x.1 (has_name (codes "batch") given))) (two_texts places) (λ x. tt)
 said_has_limit names.Make places given small = mapped_has make (one_number places) (λ x. tt)
@@ -101,10 +102,10 @@ module _ (told : List ℕ → Told) (old new : Option (List ℕ)) where
   abbrev IsDone : RunOutcome → Type 0
   IsDone outcome = Wrote Done old new outcome
 
-  value_told : {A : Type 0} (refused : Fault → RunOutcome) (go : A → Plan) (r : Result A Fault) → ((fault : Fault) → IsDone (refused fault) → ⊥) →
-      Ends (by_value refused go r) told IsDone → (x : A) × (r ≡ Ok x) × Ends (go x) told IsDone
-  value_told refused go (Ok x) never ends_so = (x, refl, ends_so)
-  value_told refused go (Err fault) never ends_so = absurd (never fault ends_so)
+  value_told : {A : Type 0} (fault_ends : Fault → RunOutcome) (go : A → Plan) (r : Result A Fault) → ((fault : Fault) → IsDone (fault_ends fault) → ⊥) →
+      Ends (by_value fault_ends go r) told IsDone → (x : A) × (r ≡ Ok x) × Ends (go x) told IsDone
+  value_told fault_ends go (Ok x) never ends_so = (x, refl, ends_so)
+  value_told fault_ends go (Err fault) never ends_so = absurd (never fault ends_so)
 
   no_bad_instance : (fault : Fault) → IsDone (bad_instance fault) → ⊥
   no_bad_instance fault done = let e : Done ≡ BadInstance = ((done.1).0).0 in absurd (cc)
@@ -192,6 +193,7 @@ module _ (told : List ℕ → Told) (old new : Option (List ℕ)) where
   keeps (Some (on instance (answer sessions walks levels batch moves))) small ends_so =
       true_run instance sessions moves walks levels with_solves (λ c script. ends (answered c script)) (λ f form script is done. answered_told f form moves small walks levels script is done) ends_so
   keeps (Some (on instance (best sessions count moves))) small ends_so = tt
+  keeps (Some (on instance (box sessions walks moves))) small ends_so = tt
   keeps (Some (on instance (certify grade moves))) small ends_so = tt
   keeps (Some (on instance (check ledger batch))) small ends_so = tt
   keeps (Some (make number)) small ends_so = tt

@@ -19,7 +19,7 @@ use Rattle.ct_run.specs.declared.status.Status.{Status}
 use Rattle.ct_run.specs.declared.status.Status.TheVariants as statuses
 use Rattle.ct_run.specs.declared.stop.Stop.{Stop}
 use Rattle.ct_run.specs.declared.stop.Stop.TheVariants.{Refused, ReadFault, Memory}
-use Rattle.ct_run.specs.Outcome.{RunOutcome, usage, bad_instance, bad_sessions, answered, listed, too_many, certified, full, checked, made, served, resumed, IsEnding, Wrote, WroteFront, is_stop, IsUnlessStopped, IsUnlessMemory}
+use Rattle.ct_run.specs.Outcome.{RunOutcome, usage, bad_instance, bad_sessions, answered, listed, too_many, boxed, certified, full, checked, made, served, resumed, IsEnding, Wrote, WroteFront, is_stop, IsUnlessStopped, IsUnlessMemory}
 use Rattle.ct_run.specs.Plan.{Plan, ends, asks}
 use Rattle.ct_run.specs.Running.{Ends, WouldEnd, ComesTo, Runs, HasReadFault, NoReadFault}
 use Rattle.ct_run.specs.Stopping.{Fits, StoppedBy, EndedBy, Ran}
@@ -63,6 +63,7 @@ ending_unstopped (bad_sessions fault) status text h = ap is_stop h.0
 ending_unstopped (answered c script) status text h = ap is_stop h.0
 ending_unstopped (listed c n count script) status text h = ap is_stop h.0
 ending_unstopped (too_many requests) status text h = ap is_stop h.0
+ending_unstopped (boxed f limit walks script) status text h = ap is_stop h.0
 ending_unstopped (certified i grade) status text h = ap is_stop h.0
 ending_unstopped (full grade) status text h = ap is_stop h.0
 ending_unstopped (made number) status text h = ap is_stop h.0

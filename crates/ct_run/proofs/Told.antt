@@ -7,7 +7,7 @@ use Rattle.ct_words.specs.Table.{WordCommand, commands}
 use Rattle.ct_words.specs.Role.{WordGiven, number_in, ◌>>=◌}
 use Rattle.ct_words.specs.Parts.{WordParts, parts_of, are_distinct}
 use Rattle.ct_words.specs.Said.{WordPlace, text, number, WordsSaid, places_of, told_of, named_of, said_of}
-use Rattle.ct_run.specs.Words.{answer, best, certify, check, Command, on, make, serve, limit_in, workers_in, two_texts, text_and_number, texts_and_number, one_number, as_command, command_of}
+use Rattle.ct_run.specs.Words.{answer, best, box, certify, check, Command, on, make, serve, limit_in, workers_in, two_texts, text_and_number, texts_and_number, one_number, as_command, command_of}
 use Rattle.ct_words.specs.Parts.{has_name, text_of}
 use Rattle.ct_run.proofs.Within.{some_is, map_is, find_has, said_by_row}
 
@@ -79,16 +79,19 @@ rows_said = (
   (
     (λ words places given is. let x = three_said _ words places is in (_, ap (option_map (λ words. on words.0 (best words.1 words.2 (limit_in given)))) x.1)),
     (
-      (λ words places given is. let x = number_said _ words places is in (_, ap (option_map (λ words. on words.0 (certify words.1 (limit_in given)))) x.1)),
+      (λ words places given is. let x = two_said words places is in (_, ap (option_map (λ names. on names.0 (box names.1 (has_name (codes "walks") given) (limit_in given)))) x.1)),
       (
-        (λ words places given is. let x = two_said words places is in (_, ap (option_map (λ names. on names.0 (check names.1 (has_name (codes "batch") given)))) x.1)),
+        (λ words places given is. let x = number_said _ words places is in (_, ap (option_map (λ words. on words.0 (certify words.1 (limit_in given)))) x.1)),
         (
-          (λ words places given is. let x = number_alone _ words places is in (_, ap (option_map make) x.1)),
+          (λ words places given is. let x = two_said words places is in (_, ap (option_map (λ names. on names.0 (check names.1 (has_name (codes "batch") given)))) x.1)),
           (
-            (λ words places given is.
-                let x = two_said words places is in
-                (_, ap (option_map (λ names. serve names.0 names.1 (text_of (codes "resume") given) (workers_in given) (has_name (codes "walks") given) (has_name (codes "levels") given) (limit_in given))) x.1)),
-            tt,
+            (λ words places given is. let x = number_alone _ words places is in (_, ap (option_map make) x.1)),
+            (
+              (λ words places given is.
+                  let x = two_said words places is in
+                  (_, ap (option_map (λ names. serve names.0 names.1 (text_of (codes "resume") given) (workers_in given) (has_name (codes "walks") given) (has_name (codes "levels") given) (limit_in given))) x.1)),
+              tt,
+            ),
           ),
         ),
       ),

@@ -16,7 +16,7 @@ use Rattle.ct_run.specs.declared.status.Status.TheVariants.{Done, Usage, BadInst
 use Rattle.ct_text.specs.Numbers.{natural_of}
 use Rattle.ct_words.specs.Parts.{parts_of}
 use Rattle.ct_words.specs.Said.{places_of}
-use Rattle.ct_run.specs.Words.{Work, answer, best, certify, check, Command, on, make, serve, command_of}
+use Rattle.ct_run.specs.Words.{Work, answer, best, box, certify, check, Command, on, make, serve, command_of}
 use Rattle.ct_instance.specs.Reach.{full_grade_up_to}
 use Rattle.ct_ledger.specs.Parts.{LedgerParts}
 use Rattle.ct_checker.specs.declared.verdicts.Verdict.{Verdict}
@@ -26,7 +26,7 @@ use Rattle.ct_run.specs.Checked.{IsVerdictEnding, IsLedgerEnding, over, faulty, 
 use Rattle.ct_run.specs.Resumption.{IsResumption, refused, unreduced, opens}
 use Rattle.ct_best_report.specs.BestReport.{rights_in}
 use Rattle.ct_answer.specs.declared.options.Options.{Options}
-use Rattle.ct_run.specs.Outcome.{bad_instance, bad_sessions, answered, listed, too_many, served, IsEnding, Wrote}
+use Rattle.ct_run.specs.Outcome.{bad_instance, bad_sessions, answered, listed, too_many, boxed, served, IsEnding, Wrote}
 use Rattle.ct_run.specs.Plan.{ends, by_value, case_of, listed_or_too_many, ledger_or_full, served_plan, serve_plan, work_plan, instance_plan, plan_of}
 use Rattle.ct_run.specs.Running.{HasBytes, Ends}
 
@@ -110,11 +110,18 @@ no_usage_of_listing (Ok script) c n count told old new wrote = by_count (nat_lt 
     by_count false wrote = let no : Usage ≡ Done = wrote.1.0.0 in cc
 no_usage_of_listing (Err fault) c n count told old new wrote = let no : Usage ≡ BadSessions = wrote.1.0.0 in cc
 
+no_usage_of_box : (read : Result Script Fault) (f : Form) (limit : ℕ) (walks : Bool) (told : List ℕ → Told) (old new : Option (List ℕ)) →
+    Ends (by_value bad_sessions (λ script. ends (boxed f limit walks script)) read) told (Wrote Usage old new) → ⊥
+no_usage_of_box (Ok script) f limit walks told old new wrote = let no : Usage ≡ Done = wrote.1.0.0 in cc
+no_usage_of_box (Err fault) f limit walks told old new wrote = let no : Usage ≡ BadSessions = wrote.1.0.0 in cc
+
 no_usage_by_work : (work : Work) (f : Form) (told : List ℕ → Told) (old new : Option (List ℕ)) → Ends (work_plan work f) told (Wrote Usage old new) → ⊥
 no_usage_by_work (answer sessions walks levels batch moves) f told old new wrote =
     of_bytes (told sessions) _ ⊥ (λ bytes. no_usage_by_sessions (session_file f.rows bytes) (case_of (record { limit = moves; walks = walks; levels = levels }) f) told old new) wrote
 no_usage_by_work (best sessions count moves) f told old new wrote =
     of_bytes (told sessions) _ ⊥ (λ bytes. no_usage_of_listing (session_file f.rows bytes) (case_of (record { limit = moves; walks = false; levels = false }) f) (length f.columns) count told old new) wrote
+no_usage_by_work (box sessions walks moves) f told old new wrote =
+    of_bytes (told sessions) _ ⊥ (λ bytes. no_usage_of_box (session_file f.rows bytes) f moves walks told old new) wrote
 no_usage_by_work (certify grade moves) f told old new wrote = no_usage_of_grade (full_grade_up_to (equal_of f) moves grade) (equal_of f) grade old new wrote
 no_usage_by_work (check ledger batch) f told old new wrote = of_bytes (told ledger) _ ⊥ (λ bytes w. no_usage_of_ledger bytes w.0 (λ l. IsVerdictEnding (equal_of f) l (verdict_of (equal_of f) l) Usage w.0)
     (λ l verdict. no_usage_of_verdict (verdict_of (equal_of f) l) (equal_of f) l w.0 verdict) w.1.0) wrote

@@ -15,6 +15,8 @@ use Rattle.ct_legal.specs.Legal.{IsLegalServed, IsLegalAnswered}
 use Rattle.ct_best_report.specs.declared.reports.BestAnswer.{BestAnswer}
 use Rattle.ct_best_report.specs.BestReport.{IsBestReport}
 use Rattle.ct_best_report.specs.BestText.{best_text}
+use Rattle.ct_form.specs.Forms.{Form}
+use Rattle.ct_box_report.specs.BoxReport.{IsBoxReport}
 use Rattle.ct_run.specs.Texts.{newline}
 use Rattle.ct_run.specs.Certificate.{IsCertificate}
 use Rattle.ct_run.specs.Checked.{IsLedgerEnding, IsChecked}
@@ -29,6 +31,7 @@ pub data RunOutcome : Type 0 where
   answered : Case → Script → RunOutcome
   listed : Case → ℕ → ℕ → Script → RunOutcome
   too_many : ℕ → RunOutcome
+  boxed : Form → ℕ → Bool → Script → RunOutcome
   certified : Problem → ℕ → RunOutcome
   full : ℕ → RunOutcome
   checked : Problem → List ℕ → RunOutcome
@@ -48,6 +51,10 @@ IsServedReportOf c script text = (report : Report) × (IsLegalServed c script re
 abbrev pub IsBestOf : Case → ℕ → ℕ → Script → List ℕ → Type 0
 IsBestOf c n count script text = (answers : List BestAnswer) × (IsBestReport c n count script answers × (text ≡ best_text answers))
 
+-- a text of what is told of a form by a box, with at most so many moves
+abbrev pub IsBoxOf : Form → ℕ → Bool → Script → List ℕ → Type 0
+IsBoxOf f limit walks script text = (report : Report) × (IsBoxReport f limit walks script report × (text ≡ report_text report))
+
 -- the status and the text with which the outcome ends
 abbrev pub IsEnding : RunOutcome → Status → List ℕ → Type 0
 IsEnding usage status text = (status ≡ Usage) × (text ≡ codes "usage: ct COMMAND ARGUMENTS" ++ newline)
@@ -56,6 +63,7 @@ IsEnding (bad_sessions fault) status text = (status ≡ BadSessions) × (text �
 IsEnding (answered c script) status text = (status ≡ Done) × IsReportOf c script text
 IsEnding (listed c n count script) status text = (status ≡ Done) × IsBestOf c n count script text
 IsEnding (too_many requests) status text = (status ≡ TooMany) × (text ≡ codes "too many: " ++ decimal requests ++ codes " requests" ++ newline)
+IsEnding (boxed f limit walks script) status text = (status ≡ Done) × IsBoxOf f limit walks script text
 IsEnding (certified i grade) status text = (status ≡ Done) × IsCertificate i grade text
 IsEnding (full grade) status text = (status ≡ Full) × (text ≡ codes "full " ++ decimal grade ++ newline)
 IsEnding (checked i bytes) status text = IsChecked i bytes status text

@@ -12,8 +12,8 @@ use Rattle.ct_form.specs.EqualityForms.{equal_of}
 use Rattle.ct_form_report.specs.FormCases.{form_case}
 use Rattle.ct_best_report.specs.BestReport.{rights_in}
 use Rattle.ct_answer.specs.declared.options.Options.{Options}
-use Rattle.ct_run.specs.Words.{Work, answer, best, certify, check, Command, on, make, serve, command_of}
-use Rattle.ct_run.specs.Outcome.{RunOutcome, usage, bad_instance, bad_sessions, answered, listed, too_many, certified, full, checked, made, served, resumed}
+use Rattle.ct_run.specs.Words.{Work, answer, best, box, certify, check, Command, on, make, serve, command_of}
+use Rattle.ct_run.specs.Outcome.{RunOutcome, usage, bad_instance, bad_sessions, answered, listed, too_many, boxed, certified, full, checked, made, served, resumed}
 
 -- it ends with an outcome, or asks for the file of a name and goes on with its bytes
 pub data Plan : Type 0 where
@@ -57,6 +57,10 @@ listed_or_too_many c n count script =
 abbrev pub best_plan : List ℕ → ℕ → Options → Form → Plan
 best_plan sessions count o f = script_plan sessions f.rows (λ script. ends (listed_or_too_many (case_of o f) (length f.columns) count script))
 
+-- answers the requests of a session file by a box
+abbrev pub box_plan : List ℕ → ℕ → Bool → Form → Plan
+box_plan sessions limit walks f = script_plan sessions f.rows (λ script. ends (boxed f limit walks script))
+
 -- the ledger of a grade, or the full grade where that is at most the grade
 abbrev pub ledger_or_full : Problem → ℕ → Option ℕ → RunOutcome
 ledger_or_full i grade None = certified i grade
@@ -73,6 +77,7 @@ check_plan ledger i = asks ledger (λ bytes. ends (checked i bytes))
 abbrev pub work_plan : Work → Form → Plan
 work_plan (answer sessions walks levels batch moves) f = sessions_plan sessions (record { limit = moves; walks = walks; levels = levels }) f
 work_plan (best sessions count moves) f = best_plan sessions count (record { limit = moves; walks = false; levels = false }) f
+work_plan (box sessions walks moves) f = box_plan sessions moves walks f
 work_plan (certify grade moves) f = certify_plan grade moves (equal_of f)
 work_plan (check ledger batch) f = check_plan ledger (equal_of f)
 

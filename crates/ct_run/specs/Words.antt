@@ -7,13 +7,14 @@ use Rattle.ct_words.specs.Role.{WordGiven, number_given, ◌>>=◌}
 use Rattle.ct_words.specs.Parts.{has_name, text_of, value_of}
 use Rattle.ct_words.specs.Said.{WordPlace, text, number, WordsSaid, said_of}
 use Rattle.ct_words.specs.declared.table.CommandName.{CommandName}
-use Rattle.ct_words.specs.declared.table.CommandName.TheVariants.{Answer, Best, Certify, Check, Make, Serve}
+use Rattle.ct_words.specs.declared.table.CommandName.TheVariants.{Answer, Best, Box, Certify, Check, Make, Serve}
 use Rattle.ct_run.specs.declared.words.TheConstants.{WORKER_DEFAULT}
 
 -- what is done with an instance; `moves` is the limit on the number of moves, and `batch` says that several threads may do it
 pub data Work : Type 0 where
   answer : (sessions : List ℕ) (walks levels batch : Bool) (moves : ℕ) → Work
   best : (sessions : List ℕ) (count moves : ℕ) → Work
+  box : (sessions : List ℕ) (walks : Bool) (moves : ℕ) → Work
   certify : (grade moves : ℕ) → Work
   check : (ledger : List ℕ) (batch : Bool) → Work
 
@@ -51,6 +52,7 @@ one_number _ = None
 abbrev pub as_command : CommandName → List WordPlace → List WordGiven → Option Command
 as_command Answer places given = option_map (λ names. on names.0 (answer names.1 (has_name (codes "walks") given) (has_name (codes "levels") given) (has_name (codes "batch") given) (limit_in given))) (two_texts places)
 as_command Best places given = option_map (λ words. on words.0 (best words.1 words.2 (limit_in given))) (texts_and_number places)
+as_command Box places given = option_map (λ names. on names.0 (box names.1 (has_name (codes "walks") given) (limit_in given))) (two_texts places)
 as_command Certify places given = option_map (λ words. on words.0 (certify words.1 (limit_in given))) (text_and_number places)
 as_command Check places given = option_map (λ names. on names.0 (check names.1 (has_name (codes "batch") given))) (two_texts places)
 as_command Make places given = option_map make (one_number places)
@@ -92,6 +94,7 @@ pub record HasNumbersWithin (said : WordsSaid) : Type 0 where
 abbrev pub IsWorkWithin : Work → Type 0
 IsWorkWithin (answer sessions walks levels batch moves) = IsLimit moves
 IsWorkWithin (best sessions count moves) = IsBestCount count × IsLimit moves
+IsWorkWithin (box sessions walks moves) = IsLimit moves
 IsWorkWithin (certify grade moves) = (grade ≤ GRADE_LIMIT) × IsLimit moves
 IsWorkWithin (check ledger batch) = Unit {0}
 

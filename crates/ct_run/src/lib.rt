@@ -7,6 +7,7 @@
 //! a plan.
 #![tactic(auto)]
 
+mod boxing;
 mod calls;
 mod certifying;
 mod checking;

@@ -3,9 +3,10 @@ ghost use Rattle.std.specs.Prelude.{◌≡◌, ◌≤◌, false, ℕ, List, IfSo
 ghost use Rattle.ct_form.specs.EqualityForms.{equal_of};
 ghost use Rattle.ct_run.specs.Words.{IsLimit, IsBestCount, IsWorkWithin, IsCommandWithin};
 ghost use Rattle.ct_run.specs.Commands.{work_seen, seen};
-ghost use Rattle.ct_run.specs.Plan.{sessions_plan, best_plan, check_plan, work_plan, instance_plan, plan_of, batch_of, plain_of};
+ghost use Rattle.ct_run.specs.Plan.{sessions_plan, best_plan, box_plan, check_plan, work_plan, instance_plan, plan_of, batch_of, plain_of};
 ghost use Rattle.ct_run.specs.Stopping.{Ran};
 
+use crate::boxing::box_ending;
 use crate::certifying::certify_ending;
 use crate::checking::check_ending;
 use crate::crew::{Crew, OneThread, Several};
@@ -61,6 +62,24 @@ fn listed_ending<S: Shelf>(
 {
     let script = script_at(alloc, form.rows(), sessions, shelf)?;
     Ok(best_ending(alloc, form, script, count, options)?)
+}
+
+// The ending of `box` on the session file of a form.
+fn boxed_ending<S: Shelf>(
+    alloc: Global,
+    form: &Form,
+    sessions: &str,
+    moves: u32,
+    walks: bool,
+    shelf: &mut S,
+) -> Result<Ending, Stop>
+    requires limit { IsLimit moves }
+    ensures ran { Ran (box_plan sessions.now moves walks form.now) (S.told shelf.old) (S.faults shelf.old) (S.faults shelf.new) result }
+    ensures kept { S.told shelf.new ≡ S.told shelf.old }
+    ensures later { (name : List ℕ) → S.faults shelf.old name ≤ S.faults shelf.new name }
+{
+    let script = script_at(alloc, form.rows(), sessions, shelf)?;
+    Ok(box_ending(alloc, form, &script, moves, walks)?)
 }
 
 // The ending of `check` on the ledger file.
@@ -121,6 +140,11 @@ fn work_ending<C: Crew, S: Shelf>(
             };
             listed_ending(alloc, form, sessions, count, options, shelf)
         }
+        Work::Box {
+            sessions,
+            walks,
+            moves,
+        } => boxed_ending(alloc, form, sessions, moves, walks, shelf),
         Work::Certify { grade, moves } => {
             let equal = Arc::try_clone(form.equal())?;
             Ok(certify_ending(alloc, equal, grade, moves)?)

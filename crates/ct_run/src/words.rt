@@ -31,6 +31,12 @@ pub enum Work<'a> {
         count: u64,
         moves: u32,
     },
+    /// Answers the requests of a session file by a box.
+    Box {
+        sessions: &'a str,
+        walks: bool,
+        moves: u32,
+    },
     /// Prints the ledger of a grade.
     Certify {
         grade: u64,
@@ -50,7 +56,7 @@ impl Work<'_> {
     {
         match *self {
             Work::Answer { batch, .. } | Work::Check { batch, .. } => batch,
-            Work::Best { .. } | Work::Certify { .. } => false,
+            Work::Best { .. } | Work::Box { .. } | Work::Certify { .. } => false,
         }
     }
 }
@@ -172,6 +178,15 @@ fn command_said<'a>(said: &Said<'a>) -> Option<Command<'a>>
             let work = Work::Best {
                 sessions,
                 count,
+                moves,
+            };
+            Some(Command::On { instance, work })
+        }
+        CommandName::Box => {
+            let (instance, sessions) = two_texts(&said.places)?;
+            let work = Work::Box {
+                sessions,
+                walks: said.has("walks"),
                 moves,
             };
             Some(Command::On { instance, work })

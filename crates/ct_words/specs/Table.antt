@@ -3,7 +3,7 @@ use Rattle.std.specs.Prelude.{ℕ, Bool, true, false, List, [], ◌∷◌, map, 
 use Rattle.ct_vectors.specs.declared.limits.TheConstants.{GRADE_LIMIT, MOVE_LIMIT, WORKER_LIMIT}
 use Rattle.ct_words.specs.declared.table.Bounds.{Bounds}
 use Rattle.ct_words.specs.declared.table.CommandName.{CommandName}
-use Rattle.ct_words.specs.declared.table.CommandName.TheVariants.{Answer, Best, Certify, Check, Make, Serve}
+use Rattle.ct_words.specs.declared.table.CommandName.TheVariants.{Answer, Best, Box, Certify, Check, Make, Serve}
 use Rattle.ct_words.specs.declared.table.OptionRow.{OptionRow}
 use Rattle.ct_words.specs.declared.table.CommandRow.{CommandRow}
 use Rattle.ct_words.specs.declared.table.Takes.{Takes}
@@ -60,11 +60,12 @@ any_text = None
 abbrev pub any_number : Option Bounds
 any_number = from_to 0 18446744073709551615
 
--- answer INSTANCE SESSIONS, best INSTANCE SESSIONS COUNT, certify INSTANCE GRADE, check INSTANCE LEDGER, make NUMBER, serve INSTANCE SESSIONS
+-- answer INSTANCE SESSIONS, best INSTANCE SESSIONS COUNT, box INSTANCE SESSIONS, certify INSTANCE GRADE, check INSTANCE LEDGER, make NUMBER, serve INSTANCE SESSIONS
 abbrev pub commands : List WordCommand
 commands =
     record { command = Answer; name = codes "answer"; places = any_text ∷ any_text ∷ []; options = flag (codes "walks") ∷ flag (codes "levels") ∷ flag (codes "batch") ∷ moves ∷ [] }
     ∷ record { command = Best; name = codes "best"; places = any_text ∷ any_text ∷ from_to 1 100 ∷ []; options = moves ∷ [] }
+    ∷ record { command = Box; name = codes "box"; places = any_text ∷ any_text ∷ []; options = flag (codes "walks") ∷ moves ∷ [] }
     ∷ record { command = Certify; name = codes "certify"; places = any_text ∷ from_to 0 GRADE_LIMIT ∷ []; options = moves ∷ [] }
     ∷ record { command = Check; name = codes "check"; places = any_text ∷ any_text ∷ []; options = flag (codes "batch") ∷ [] }
     ∷ record { command = Make; name = codes "make"; places = any_number ∷ []; options = [] }

@@ -9,6 +9,8 @@ pub enum CommandName {
     Answer,
     /// Gives the least solutions of each request of a session file.
     Best,
+    /// Answers the requests of a session file by the moves within the greatest right-hand sides.
+    Box,
     /// Prints the ledger of a grade.
     Certify,
     /// Checks a ledger.
@@ -102,7 +104,7 @@ const ANY_NUMBER: Bounds = Bounds {
 };
 
 /// Each command, with its positional words and its options.
-pub static COMMANDS: [CommandRow; 6] = [
+pub static COMMANDS: [CommandRow; 7] = [
     CommandRow {
         command: CommandName::Answer,
         name: "answer",
@@ -114,6 +116,12 @@ pub static COMMANDS: [CommandRow; 6] = [
         name: "best",
         places: &[None, None, Some(COUNT)],
         options: &[MOVES],
+    },
+    CommandRow {
+        command: CommandName::Box,
+        name: "box",
+        places: &[None, None],
+        options: &[WALKS, MOVES],
     },
     CommandRow {
         command: CommandName::Certify,

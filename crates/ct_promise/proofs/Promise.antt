@@ -101,10 +101,10 @@ module _ (told : List ℕ → Told) (old new : Option (List ℕ)) where
   abbrev IsDone : RunOutcome → Type 0
   IsDone outcome = Wrote Done old new outcome
 
-  value_told : {A : Type 0} (refused : Fault → RunOutcome) (go : A → Plan) (r : Result A Fault) → ((fault : Fault) → IsDone (refused fault) → ⊥) →
-      Ends (by_value refused go r) told IsDone → (x : A) × (r ≡ Ok x) × Ends (go x) told IsDone
-  value_told refused go (Ok x) never ends_so = (x, refl, ends_so)
-  value_told refused go (Err fault) never ends_so = absurd (never fault ends_so)
+  value_told : {A : Type 0} (fault_ends : Fault → RunOutcome) (go : A → Plan) (r : Result A Fault) → ((fault : Fault) → IsDone (fault_ends fault) → ⊥) →
+      Ends (by_value fault_ends go r) told IsDone → (x : A) × (r ≡ Ok x) × Ends (go x) told IsDone
+  value_told fault_ends go (Ok x) never ends_so = (x, refl, ends_so)
+  value_told fault_ends go (Err fault) never ends_so = absurd (never fault ends_so)
 
   no_bad_instance : (fault : Fault) → IsDone (bad_instance fault) → ⊥
   no_bad_instance fault done = let e : Done ≡ BadInstance = ((done.1).0).0 in absurd (cc)

@@ -1,6 +1,9 @@
-mod BoxLists
-mod Openings
-mod BoxWalks
-mod FullGrades
-mod Completions
-mod Worked
+pub mod BoxLists
+pub mod Openings
+pub mod BoxWalks
+pub mod FullGrades
+pub mod Completions
+pub mod Worked
+pub mod JobEnds
+pub mod BroughtMoves
+pub mod BoxRuns

@@ -1,3 +1,4 @@
 pub mod Box
+pub mod Brought
 pub mod Completing
 pub mod Laws

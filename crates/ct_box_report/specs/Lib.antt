@@ -1,0 +1,2 @@
+pub mod BoxReport
+pub mod Boxes

@@ -9,8 +9,6 @@
 mod filling;
 pub mod laws;
 mod reducing;
-#[cfg(test)]
-mod tests;
 mod within;
 
 pub use filling::{BoxDone, complete_box};

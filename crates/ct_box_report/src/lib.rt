@@ -9,7 +9,5 @@ mod answering;
 mod bounding;
 mod boxed;
 mod reading;
-#[cfg(test)]
-mod tests;
 
 pub use answering::box_report;

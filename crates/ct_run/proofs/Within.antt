@@ -233,12 +233,15 @@ rows-within = (
   (
     record { places = (tt, (tt, (λ n low high. (low, high), tt))); options = (moves_value, tt) },
     (
-      record { places = (tt, (λ n low high. high, tt)); options = (moves_value, tt) },
+      record { places = (tt, (tt, tt)); options = (tt, (moves_value, tt)) },
       (
-        record { places = (tt, (tt, tt)); options = (tt, tt) },
+        record { places = (tt, (λ n low high. high, tt)); options = (moves_value, tt) },
         (
-          record { places = (λ n low high. tt, tt); options = tt },
-          (record { places = (tt, (tt, tt)); options = (workers_value, (tt, (tt, (moves_value, (tt, tt))))) }, tt),
+          record { places = (tt, (tt, tt)); options = (tt, tt) },
+          (
+            record { places = (λ n low high. tt, tt); options = tt },
+            (record { places = (tt, (tt, tt)); options = (workers_value, (tt, (tt, (moves_value, (tt, tt))))) }, tt),
+          ),
         ),
       ),
     ),

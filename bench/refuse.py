@@ -14,7 +14,7 @@ refused, only the latter.
 of 1, 5, 10 and 25, and two phases of two sessions in coins of 3 and 5, with walks. A run ends with the report that `answer`
 writes, or with status 7 and nothing written; where a thread is refused, with the report.
 
-`answer` of the second input and `best` of a request, both also of a form with a slack and a bound, and `answer --batch` of 3,000
+`answer` and `box` of the second input and `best` of a request, both also of a form with a slack and a bound, and `answer --batch` of 3,000
 requests, and `serve` of two asks with a ledger, also of that form: a run ends with its text, or with status 7 and nothing written.
 
 `answer` and `serve` with a full device and with a pipe that was closed before the first byte end with status 6 and by no
@@ -141,6 +141,8 @@ def main():
             ["best", THREES, "sessions 1 phase 0 session solve 30 end", ["3"]],
             ["best", FORM, "sessions 1 phase 0 session solve 30 end", ["3"]],
             ["answer", THREES, BATCH, ["--walks", "--batch"]],
+            ["box", THREES, PHASES, ["--walks"]],
+            ["box", FORM, "sessions 1 phase 0 session solve 11 end", ["--walks"]],
         ]
         for command, instance, sessions, more in sets:
             words = [ct, command, file("instance", instance), file("sessions", sessions), *more]
